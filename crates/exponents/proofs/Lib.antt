@@ -1,0 +1,16 @@
+pub mod Divisors
+pub mod Ring
+pub mod Holds
+pub mod Numbers
+pub mod Equality
+pub mod Size
+pub mod WithSign
+pub mod Ranged
+pub mod Multiples
+pub mod Exact
+pub mod InRange
+pub mod Order
+pub mod Value
+pub mod Rationals
+pub mod Totals
+pub mod Examples

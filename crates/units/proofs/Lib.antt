@@ -1,0 +1,4 @@
+pub mod Laws
+pub mod Checked
+pub mod Powers
+pub mod Sound
