@@ -1,16 +1,14 @@
 // Exponents: fractions in lowest terms, worked out exactly, then tested for their range (01, "Records and sizes").
 // Public: `faulty`, `sum`, `product`, `quotient`, `negated`, `less`, `same`, `gcd`, `common_multiple`. None asks anything of its caller.
 ghost use mathlib.Core.Path.{_≡_};
-ghost use lib.IntN.{natAbs};
 ghost use Rattle.exponents.specs.Fractions as spec;
 ghost use Rattle.exponents.specs.Fractions.{fractionOf, multipleOf};
 ghost use Rattle.exponents.specs.Signs.{withSign};
 ghost use Rattle.exponents.specs.Gcd;
+use refusals::RANGE;
 
-pub mod signs;
-
-// 01, "The refusals": an exponent or a common multiple left its range.
-pub const RANGE: u32 = 5;
+pub mod refusals; // 01's numbers
+pub mod signs; // signed numbers as a sign and a magnitude
 
 // num / den. Any bits may stand here; `faulty` tells those that break 01's rule.
 pub struct Exponent {

@@ -12,13 +12,9 @@ use super::Factors;
 use super::Prefix;
 use exponents::Exponent;
 use exponents::Fraction;
-
-// 01, "The refusals": a list breaks its shape, names a row that isn't there, or finds no room.
-const SHAPE: u32 = 2;
-
-const UNKNOWN: u32 = 3;
-
-const ROOM: u32 = 4;
+use exponents::refusals::ROOM;
+use exponents::refusals::SHAPE;
+use exponents::refusals::UNKNOWN;
 
 // A list, or the empty list beside the number of the refusal.
 pub struct Made {

@@ -2,9 +2,7 @@
 ghost use mathlib.Core.Path.{_≡_};
 ghost use Rattle.units.specs.Prefixes.{numberFault, prefixFault, factorOf, prefixFactor, prefixFactorOf};
 use super::Prefix;
-
-// 01, "The refusals": a prefix breaks its rule.
-const SHAPE: u32 = 2;
+use exponents::refusals::SHAPE;
 
 // The factor of a prefix, or the number of the refusal.
 pub enum PrefixFactor {

@@ -1,0 +1,24 @@
+// 01's table "The refusals", as the numbers that code hands over. `specs/Outcome` has the same numbers for the definitions.
+
+// over 128 rows, or a row breaks the table rules
+pub const TABLE: u32 = 1;
+// a list is too long, a prefix or exponent breaks its rule, or candidates don't rise in rank
+pub const SHAPE: u32 = 2;
+// a list names a row that isn't there
+pub const UNKNOWN: u32 = 3;
+// a product or quotient has over 16 factors before merging
+pub const ROOM: u32 = 4;
+// an exponent or a common multiple of denominators leaves its range
+pub const RANGE: u32 = 5;
+// unlike base exponents, nonzero value
+pub const UNITS: u32 = 6;
+// a scale other than 1 meets an exponent that isn't whole
+pub const FRACTION: u32 = 7;
+// the divisor's value is zero of either sign
+pub const DIVZERO: u32 = 8;
+// zero value, exponent below zero
+pub const ZERONEG: u32 = 9;
+// power by a value that isn't whole
+pub const NONWHOLE: u32 = 10;
+// comparison with a NaN operand, or a NaN after conversion
+pub const NAN: u32 = 11;
