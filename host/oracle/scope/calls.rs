@@ -1,0 +1,139 @@
+// Every call from a request to its answer by 01's rules.
+use wire::bytes::{put_exponent, put_list, put_quantity, put_u32, put_u64};
+use wire::records::{self, bits_of};
+use wire::refusals::DIVZERO;
+use wire::stream::{Answer, Request};
+
+use crate::Checked;
+use crate::arguments::{self, Arguments};
+use crate::canonical::{canonical, same};
+use crate::conversion::converted;
+use crate::domain::number;
+use crate::fractions::{Fraction, ZERO};
+use crate::lists::{Part, joined, negated, power, with_room, written};
+use crate::multiples::is_multiple_of;
+use crate::reduction::{base_exponents, prefix_factor, scale};
+use crate::registry::{base_list, full_simplify_with};
+use crate::simplification::full_simplify;
+use crate::sums::{self, Quantity, fresh, is_zero};
+
+/// 01's answer to a request.
+pub fn answer(request: &Request) -> Answer {
+    match given(request) {
+        Ok(bytes) => Answer::given(bytes),
+        Err(refusal) => Answer::refused(number(refusal)),
+    }
+}
+
+pub fn given(request: &Request) -> Checked<Vec<u8>> {
+    if request.code == 1 {
+        let prefix = arguments::prefix(request)?;
+        return Ok(bytes(|out| put_u64(out, bits_of(prefix_factor(prefix)))));
+    }
+    let mut a = arguments::of(request)?;
+    match request.code {
+        2..=7 | 19 | 20 => on_lists(request.code, &mut a),
+        17 | 18 => comparison(request.code, &mut a),
+        10..=14 => on_two(request.code, &mut a),
+        _ => on_one(request.code, &mut a),
+    }
+}
+
+fn bytes(put: impl FnOnce(&mut Vec<u8>)) -> Vec<u8> {
+    let mut out = Vec::new();
+    put(&mut out);
+    out
+}
+
+fn list_bytes(parts: &[Part]) -> Vec<u8> {
+    bytes(|out| put_list(out, &written(parts)))
+}
+
+fn quantity_bytes(q: &Quantity) -> Vec<u8> {
+    let record = records::Quantity { bits: bits_of(q.value), mark: q.mark as u32, unit: written(&q.unit) };
+    bytes(|out| put_quantity(out, &record))
+}
+
+fn number_bytes(n: u32) -> Vec<u8> {
+    bytes(|out| put_u32(out, n))
+}
+
+fn multiple_bytes(multiple: Option<Fraction>) -> Vec<u8> {
+    bytes(|out| {
+        put_u32(out, multiple.is_some() as u32);
+        put_exponent(out, multiple.unwrap_or(ZERO).exponent());
+    })
+}
+
+fn on_lists(code: u32, a: &mut Arguments) -> Checked<Vec<u8>> {
+    let first = a.list()?;
+    match code {
+        4 => {
+            let e = a.exponent()?;
+            return Ok(list_bytes(&power(&first, e)?));
+        }
+        5 => return Ok(list_bytes(&canonical(&a.table, &first)?)),
+        7 => return reduced(a, &first),
+        _ => {}
+    }
+    let second = a.list()?;
+    let table = &a.table;
+    Ok(match code {
+        2 => list_bytes(&with_room(joined(&first, &second))?),
+        3 => list_bytes(&with_room(joined(&first, &negated(&second)))?),
+        6 => number_bytes(same(table, &first, &second)? as u32),
+        19 => list_bytes(sums::smaller_unit(table, &first, &second)?),
+        _ => multiple_bytes(is_multiple_of(table, &first, &second)?),
+    })
+}
+
+fn reduced(a: &Arguments, list: &[Part]) -> Checked<Vec<u8>> {
+    let base = base_exponents(&a.table.rows, list)?;
+    let scale = scale(&a.table.rows, list)?;
+    let mut out = bytes(|out| put_u64(out, bits_of(scale)));
+    out.extend(list_bytes(&base_list(&a.table, &base)));
+    Ok(out)
+}
+
+fn comparison(code: u32, a: &mut Arguments) -> Checked<Vec<u8>> {
+    let (first, second) = (a.quantity()?, a.quantity()?);
+    Ok(number_bytes(match code {
+        17 => sums::equal(&a.table, &first, &second)? as u32,
+        _ => (sums::compare(&a.table, &first, &second)? as i8 + 1) as u32,
+    }))
+}
+
+fn on_two(code: u32, a: &mut Arguments) -> Checked<Vec<u8>> {
+    let (first, second) = (a.quantity()?, a.quantity()?);
+    let table = &a.table;
+    Ok(quantity_bytes(&match code {
+        10 => sums::add(table, &first, &second)?,
+        11 => sums::subtract(table, &first, &second)?,
+        12 => fresh(first.value * second.value, with_room(joined(&first.unit, &second.unit))?),
+        13 if is_zero(&second) => return Err(DIVZERO),
+        13 => fresh(first.value / second.value, with_room(joined(&first.unit, &negated(&second.unit)))?),
+        _ => sums::checked_power(table, &first, &second)?,
+    }))
+}
+
+fn on_one(code: u32, a: &mut Arguments) -> Checked<Vec<u8>> {
+    let q = a.quantity()?;
+    Ok(quantity_bytes(&match code {
+        8 => {
+            let base = base_exponents(&a.table.rows, &q.unit)?;
+            fresh(q.value * scale(&a.table.rows, &q.unit)?, base_list(&a.table, &base))
+        }
+        9 => {
+            let target = a.list()?;
+            fresh(converted(&a.table, q.value, &q.unit, &target)?, target)
+        }
+        15 => fresh(-q.value, q.unit),
+        16 => fresh(q.value.abs(), q.unit),
+        21 => full_simplify(&a.table, &q)?,
+        22 => {
+            let candidates = a.candidates()?;
+            full_simplify_with(&a.table, &q, &candidates)?
+        }
+        _ => Quantity { mark: false, ..q },
+    }))
+}

@@ -1,0 +1,43 @@
+// Conversion of a value from one list to another ("Conversion, sums, comparison"; readings 10 to 13).
+use wire::refusals::UNITS;
+
+use crate::Checked;
+use crate::canonical::canonical;
+use crate::fractions::Fraction;
+use crate::lists::{Part, joined, negated};
+use crate::reduction::{base_exponents, scale};
+use crate::tables::Table;
+
+fn common_exponent(own: Fraction, target: Fraction) -> Option<Fraction> {
+    let own_smaller = own.compared(target).is_le();
+    match (own.num > 0, target.num > 0) {
+        (true, true) => Some(if own_smaller { own } else { target }),
+        (false, false) => Some(if own_smaller { target } else { own }),
+        _ => None,
+    }
+}
+
+/// The factors common to two canonical lists, in the order of the own one.
+pub fn common(own: &[Part], target: &[Part]) -> Vec<Part> {
+    let beside = |p: &Part| {
+        let other = target.iter().find(|t| t.row == p.row && t.prefix == p.prefix)?;
+        Some(Part { exponent: common_exponent(p.exponent, other.exponent)?, ..*p })
+    };
+    own.iter().filter_map(beside).collect()
+}
+
+pub fn converted(table: &Table, value: f64, own: &[Part], target: &[Part]) -> Checked<f64> {
+    let (own_form, target_form) = (canonical(table, own)?, canonical(table, target)?);
+    if own_form == target_form || value == 0.0 {
+        return Ok(value);
+    }
+    let common = negated(&common(&own_form, &target_form));
+    let own_left = joined(own, &common);
+    let own_base = base_exponents(&table.rows, &own_left)?;
+    let target_left = canonical(table, &joined(target, &common))?;
+    if own_base != base_exponents(&table.rows, &target_left)? {
+        return Err(UNITS);
+    }
+    let own_scale = scale(&table.rows, &own_left)?;
+    Ok(value * own_scale / scale(&table.rows, &target_left)?)
+}

@@ -1,0 +1,60 @@
+// The calls by their codes: names, the kinds of their arguments after the table, and the kinds of their answers.
+#[derive(Debug, Clone, Copy, PartialEq, Eq)]
+pub enum Kind {
+    Table,
+    Prefix,
+    Exponent,
+    List,
+    Quantity,
+    Candidates,
+    Value,
+    YesNo,
+    Order,
+    Multiple,
+    Reduced,
+}
+
+use Kind::*;
+
+pub struct Call {
+    pub name: &'static str,
+    pub arguments: &'static [Kind],
+    pub answer: Kind,
+}
+
+const fn call(name: &'static str, arguments: &'static [Kind], answer: Kind) -> Call {
+    Call { name, arguments, answer }
+}
+
+/// Code 1 is the first entry.
+const CALLS: [Call; 23] = [
+    call("prefix_factor", &[Prefix], Value),
+    call("product", &[Table, List, List], List),
+    call("quotient", &[Table, List, List], List),
+    call("list_power", &[Table, List, Exponent], List),
+    call("canonical", &[Table, List], List),
+    call("same_list", &[Table, List, List], YesNo),
+    call("reduce_list", &[Table, List], Reduced),
+    call("reduce", &[Table, Quantity], Quantity),
+    call("convert_to", &[Table, Quantity, List], Quantity),
+    call("add", &[Table, Quantity, Quantity], Quantity),
+    call("subtract", &[Table, Quantity, Quantity], Quantity),
+    call("multiply", &[Table, Quantity, Quantity], Quantity),
+    call("checked_div", &[Table, Quantity, Quantity], Quantity),
+    call("checked_power", &[Table, Quantity, Quantity], Quantity),
+    call("negate", &[Table, Quantity], Quantity),
+    call("abs", &[Table, Quantity], Quantity),
+    call("equal", &[Table, Quantity, Quantity], YesNo),
+    call("compare", &[Table, Quantity, Quantity], Order),
+    call("smaller_unit", &[Table, List, List], List),
+    call("is_multiple_of", &[Table, List, List], Multiple),
+    call("full_simplify", &[Table, Quantity], Quantity),
+    call("full_simplify_with", &[Table, Quantity, Candidates], Quantity),
+    call("no_simplify", &[Table, Quantity], Quantity),
+];
+
+pub const CODES: std::ops::RangeInclusive<u32> = 1..=23;
+
+pub fn of_code(code: u32) -> Option<&'static Call> {
+    CALLS.get((code as usize).wrapping_sub(1))
+}

@@ -1,0 +1,63 @@
+#!/usr/bin/env python3
+# Puts one wrong reading of 01 into a copy of the folder `scope`, to see whether the generated requests and the stored list
+# show it. Each is an exact text put for another that must stand there once.
+#
+#   wrong.py list              names all
+#   wrong.py NAME FOLDER       writes the copy with that one
+import pathlib
+import shutil
+import sys
+
+HERE = pathlib.Path(__file__).parent
+GREATER = "place(a).cmp(&place(b)).then(a.exponent.compared(b.exponent))"
+NEGATIVE = "(false, false) => Some(if own_smaller { target } else { own })"
+OWN_SCALE = "let own_scale = scale(&table.rows, &own_left)?;"
+DIFFERENCE = "Ok(Quantity { value: -b.value, ..b.clone() })"
+RESULT = "Ok(value * own_scale / scale(&table.rows, &target_left)?)"
+
+WRONG = {
+    "own-list-merged": ("conversion.rs", OWN_SCALE, OWN_SCALE.replace("&own_left", "&canonical(table, &own_left)?")),
+    "target-not-merged": ("conversion.rs", RESULT, RESULT.replace("&target_left", "&joined(target, &common)")),
+    "common-of-negatives": ("conversion.rs", NEGATIVE, "(false, false) => Some(if own_smaller { own } else { target })"),
+    "scales-divided-first": ("conversion.rs", RESULT, "Ok(value * (own_scale / scale(&table.rows, &target_left)?))"),
+    "units-before-zero": ("conversion.rs", " || value == 0.0", ""),
+    "first-on-a-tie": ("simplification.rs", GREATER, GREATER + ".then(std::cmp::Ordering::Greater)"),
+    "base-not-greater": ("simplification.rs", GREATER, "a.exponent.compared(b.exponent)"),
+    "plain-exponent-sum": ("simplification.rs", "p.exponent.times(first_exponent(table, p))?.over(divisor)?", "p.exponent"),
+    "last-factor-that-fits": ("simplification.rs", "for factor in &form {", "for factor in form.iter().rev() {"),
+    "any-multiple-fits": ("simplification.rs", ".filter(|m| m.is_whole())", ""),
+    "scalar-group-kept": ("simplification.rs", "if base_exponents(&table.rows, group)?.is_empty() {", "if false {"),
+    "last-candidate-on-a-tie": ("registry.rs", "unit.len() < b.unit.len()", "unit.len() <= b.unit.len()"),
+    "near-1.1e-9": ("registry.rs", "NEAR: f64 = 1e-9", "NEAR: f64 = 1.1e-9"),
+    "no-single-base-unit": ("registry.rs", "&& exponent.is_whole()", "&& false"),
+    "single-base-unit-any-exponent": ("registry.rs", "&& exponent.is_whole()", ""),
+    "one-factor-not-at-once": ("registry.rs", "if unit.len() == 1 {", "if false {"),
+    "any-scale": ("registry.rs", "if !alike(own, scale(&table.rows, unit)?) {", "if false {"),
+    "as-many-factors": ("registry.rs", "unit.len() >= now.unit.len()", "unit.len() > now.unit.len()"),
+    "smaller-strictly": ("sums.rs", "if own <= other { a } else { b }", "if own < other { a } else { b }"),
+    "sum-with-zero-marked": ("sums.rs", "(true, _) => Ok(b.clone()),", "(true, _) => Ok(fresh(b.value, b.unit.clone())),"),
+    "difference-unmarked": ("sums.rs", "Ok(fresh(-b.value, b.unit.clone()))", DIFFERENCE),
+    "key-sign-kept": ("tables.rs", "n / divisor * sign", "n / divisor"),
+    "key-not-divided": ("tables.rs", "n / divisor * sign", "n * sign"),
+    "no-rank-in-order": ("canonical.rs", "table.rows[p.row].rank, ", ""),
+    "prefix-number-first": ("canonical.rs", "p.prefix.kind, p.prefix.n", "p.prefix.n, p.prefix.kind"),
+    "zeros-stay": ("canonical.rs", "merged.retain(|m| m.exponent != ZERO);", ""),
+    "agreement-not-one": ("multiples.rs", "if a == b {", "if false {"),
+    "negative-power-of-inverse": ("reduction.rs", "if n < 0 { 1.0 / r }", "if n < 0 { power(1.0 / base, -n) }"),
+}
+
+
+def main():
+    if sys.argv[1:] == ["list"]:
+        print("\n".join(WRONG))
+        return
+    name, folder = sys.argv[1], pathlib.Path(sys.argv[2])
+    shutil.copytree(HERE / "scope", folder)
+    file, old, new = WRONG[name]
+    text = (folder / file).read_text()
+    if text.count(old) != 1:
+        sys.exit(f"wrong: {name} applies {text.count(old)} times")
+    (folder / file).write_text(text.replace(old, new))
+
+
+main()
