@@ -12,5 +12,8 @@ pub mod InRange
 pub mod Order
 pub mod Value
 pub mod Rationals
+pub mod Sound
 pub mod Totals
+pub mod Traversal
+pub mod Summing
 pub mod Examples

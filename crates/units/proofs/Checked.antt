@@ -1,7 +1,7 @@
 -- What the check of a list tells, and calls that go on after it.
 use mathlib.Core.Path.{_≡_, refl, sym, ap, _∙_}
 use mathlib.Core.Bool.{Bool, true, false, cond, _||_}
-use mathlib.Core.List.{List, [], _∷_, _++_}
+use mathlib.Core.List.{List, _++_}
 use Prim.Native.Nat.{ℕ, zero, suc, _+_, _≤_, _<_}
 use native.Mathlib.Omega.{arith}
 use lib.Dec.{ltb}
@@ -13,7 +13,6 @@ use Rattle.exponents.proofs.InRange.{or-left, or-right}
 use Rattle.exponents.proofs.Numbers.{refuses, unless-passed, refusal-map}
 use Rattle.units.specs.declared.Factor.{Factor}
 use Rattle.units.specs.declared.Factors.{Factors}
-use Rattle.units.specs.declared.lists.Made.{Made}
 use Rattle.units.specs.Lists.{listOf, pack, refusedBy, madeOf, factorFault, some, unknown, checked, both, joined}
 
 or-true : (b : Bool) → (b || true) ≡ true

@@ -3,12 +3,11 @@ use mathlib.Core.Path.{_≡_, refl}
 use mathlib.Core.List.{List, [], _∷_, map}
 use Prim.Native.Nat.{ℕ}
 use lib.IntN.{ℤ, pos, negsuc}
-use lib.ListN.{length, replicate}
-use lib.Ieee.{Float, binary64, toBits, ofBits, mul, div}
+use lib.ListN.{replicate}
+use lib.Ieee.{binary64, toBits, ofBits, mul, div}
 use Rattle.exponents.specs.Outcome.{Outcome, given, refused, SHAPE, UNKNOWN, ROOM, RANGE, each}
 use Rattle.exponents.specs.Outcome as outcome
 use Rattle.exponents.specs.Fractions.{worked}
-use Rattle.exponents.specs.declared.Exponent.{Exponent}
 use Rattle.floats.specs.Power.{power, raise, bitsOf}
 use Rattle.units.specs.declared.Prefix.{Prefix}
 use Rattle.units.specs.declared.Prefix.the-variants.{Metric, Binary}

@@ -78,7 +78,7 @@ module _ (fault : Factor → Bool) (l : Factors) (sized : length (listOf l) ≡ 
   told-end i t h e = sym (e ∙ ap (λ r. t || some fault r) (drop-of-length-le (listOf l) {i = i} (omega arith)) ∙ or-none t)
 
 -- a list with no fault has none at a place
-none-at : (fault : Factor → Bool) (l : List Factor) (i : ℕ) (d : Factor) → i < length l → some fault l ≡ false → fault (getD l i d) ≡ false
+pub none-at : (fault : Factor → Bool) (l : List Factor) (i : ℕ) (d : Factor) → i < length l → some fault l ≡ false → fault (getD l i d) ≡ false
 unfolding some
 none-at fault [] i d h e = absurd (omega arith)
 none-at fault (x ∷ xs) zero d h e = or-left (fault x) (some fault xs) e

@@ -1,5 +1,5 @@
 -- A factor without a fault can be inverted; a factor raised, as the code has it.
-use mathlib.Core.Path.{_≡_, refl, sym, _∙_, ap}
+use mathlib.Core.Path.{_≡_, sym, _∙_, ap}
 use mathlib.Core.Bool.{false}
 use Prim.Native.Nat.{ℕ}
 use native.Mathlib.Omega.{arith}
@@ -8,16 +8,19 @@ use Rattle.exponents.specs.Fractions.{faulty, neg, neg?, mul?, fractionOf}
 use Rattle.exponents.specs.declared.Exponent.{Exponent}
 use Rattle.exponents.specs.declared.Fraction.the-variants.{Exact, Refused}
 use Rattle.exponents.proofs.InRange.{or-right, neg?-given}
-use Rattle.exponents.proofs.Numbers.{Refuses, exact-given, refused-refuses}
+use Rattle.exponents.proofs.Numbers.{exact-given, refused-refuses}
 use Rattle.units.specs.declared.Factor.{Factor}
 use Rattle.units.specs.declared.lists.Raised.the-variants.{Power, Refused as NotRaised}
 use Rattle.units.specs.Prefixes.{prefixFault}
 use Rattle.units.specs.Lists.{factorFault, withExponent, inverted, raised, raisedOf}
 
 module _ (f : Factor) (h : factorFault f ≡ false) where
-  negative : neg? (f .exponent) ≡ given (neg (f .exponent))
+  pub exponent-sound : faulty (f .exponent) ≡ false
   unfolding factorFault
-  negative = neg?-given (f .exponent) (or-right (prefixFault (f .prefix)) (faulty (f .exponent)) h)
+  exponent-sound = or-right (prefixFault (f .prefix)) (faulty (f .exponent)) h
+
+  negative : neg? (f .exponent) ≡ given (neg (f .exponent))
+  negative = neg?-given (f .exponent) exponent-sound
 
   pub inverted-by : (x : Exponent) → fractionOf (neg? (f .exponent)) ≡ Exact x → withExponent f x ≡ inverted f
   unfolding inverted

@@ -1,5 +1,5 @@
 -- Lists of factors: their shape, product, quotient and power (01, "Records and sizes", last sentence of "Canonical form").
-use mathlib.Core.Bool.{Bool, true, false, not, _||_}
+use mathlib.Core.Bool.{Bool, false, not, _||_}
 use mathlib.Core.List.{List, [], _∷_, _++_, map}
 use Prim.Native.Nat.{ℕ, _+_, _-_}
 use lib.Dec.{ltb}

@@ -1,0 +1,9 @@
+pub mod Total
+pub mod Algebra
+pub mod Sums
+pub mod Answered
+pub mod Sorted
+pub mod Decides
+pub mod Equal
+pub mod Bases
+pub mod Define

@@ -1,0 +1,56 @@
+// Tables: admission of rows, and lists resolved against an admitted table (01, "Records and sizes", "The refusals").
+// `admission`: `admit`.
+use exponents::Exponent;
+use units::Factor;
+
+pub mod keys; // a row's key
+pub mod order; // comparing keys
+pub mod ranked; // the base rows in rank order
+pub mod scales; // powers of a scale
+pub mod rows; // one row worked out
+pub mod admission; // the table's rows in row order
+
+// A base row: its number and its rank.
+pub struct Slot {
+    pub row: u32,
+    pub rank: u16,
+}
+
+// The base rows in rank order.
+pub struct Slots {
+    pub at: [Slot; 16],
+    pub len: usize,
+}
+
+// What is known of an admitted row: its base exponents in the order of the slots, scale, rank and kind.
+pub struct Known {
+    pub exps: [Exponent; 16],
+    pub scale: f64,
+    pub rank: u16,
+    pub base: bool,
+}
+
+// An admitted table; or a refusal's number, and how many rows stood before the fault.
+pub struct Table {
+    pub known: [Known; 128],
+    pub slots: Slots,
+    pub len: usize,
+    pub refusal: u32,
+}
+
+// A factor with what is known of its row: its base exponents in the order of the slots, its scale, its place in the order
+// of rows and its key's class among the rows of the call, and whether it is base.
+pub struct Item {
+    pub exps: [Exponent; 16],
+    pub factor: Factor,
+    pub scale: f64,
+    pub place: u32,
+    pub class: u32,
+    pub base: bool,
+}
+
+// A resolved list.
+pub struct Items {
+    pub at: [Item; 16],
+    pub len: usize,
+}
