@@ -1,7 +1,13 @@
 #!/usr/bin/env python3
 """What the program must print, by 01's table rules with Python's own fractions and floats: `./expected.py > stdout`."""
 import math
+import pathlib
+import sys
 from fractions import Fraction
+
+sys.path.insert(0, str(pathlib.Path(__file__).resolve().parent.parent / "limits"))
+sys.dont_write_bytecode = True
+from powers import power  # noqa: E402
 
 TABLE, SHAPE, RANGE, FRACTION = 1, 2, 5, 7
 MOST = 2147483647
@@ -15,17 +21,6 @@ def ranged(x):
     if abs(x.numerator) > MOST or x.denominator > MOST:
         raise Refused(RANGE)
     return x
-
-
-def power(base, n):
-    r, a, m = 1.0, base, abs(n)
-    while m:
-        if m & 1:
-            r *= a
-        m >>= 1
-        if m:
-            a *= a
-    return r if n >= 0 else (1.0 / r if r else math.inf)
 
 
 def base_exponents(definition, rows, places):

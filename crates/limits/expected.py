@@ -2,7 +2,11 @@
 """What the program must print, worked out from document 01 with Python's own fractions and floats: `./expected.py > stdout`."""
 import math
 import struct
+import sys
 from fractions import Fraction
+
+sys.dont_write_bytecode = True
+from powers import power  # noqa: E402
 
 MOST = 2147483647
 SHAPE, UNKNOWN, ROOM, RANGE = 2, 3, 4, 5
@@ -71,19 +75,6 @@ def bits(x):
 
 def of_bits(n):
     return struct.unpack(">d", n.to_bytes(8, "big"))[0]
-
-
-def power(base, n):
-    r, a, m = 1.0, base, abs(n)
-    while m:
-        if m & 1:
-            r *= a
-        m >>= 1
-        if m:
-            a *= a
-    if n >= 0:
-        return r
-    return 1.0 / r if r else math.copysign(math.inf, r)
 
 
 def floats():

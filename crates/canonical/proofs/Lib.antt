@@ -7,3 +7,12 @@ pub mod Decides
 pub mod Equal
 pub mod Bases
 pub mod Define
+pub mod Comparing
+pub mod Spots
+pub mod Packs
+pub mod Gathering
+pub mod Seen
+pub mod Rebuilding
+pub mod Walked
+pub mod Agree
+pub mod Judged

@@ -1,1 +1,4 @@
-// Canonical form, base exponents, scale and reduction of lists (01, "Canonical form", "Powers and scales").
+// The canonical form of lists, and their equality (01, "Canonical form").
+// `form`: `canonical`, `same`. `equality`: `equal`. None asks anything of its caller.
+pub mod form; // canonical form
+pub mod equality; // equality by canonical forms

@@ -19,27 +19,27 @@ use Rattle.tables.proofs.Places.{rest}
 
 -- ---- numbers
 
-same-nat : (n : ℕ) → compare n n ≡ Ordering·eq
+pub same-nat : (n : ℕ) → compare n n ≡ Ordering·eq
 same-nat zero = compare·zero-zero
 same-nat (suc n) = compare·suc-suc n n ∙ same-nat n
 
-less-nat : (k m : ℕ) → k < m → compare k m ≡ Ordering·lt
+pub less-nat : (k m : ℕ) → k < m → compare k m ≡ Ordering·lt
 less-nat k zero h = absurd (omega arith)
 less-nat zero (suc m) h = compare·zero-suc m
 less-nat (suc k) (suc m) h = compare·suc-suc k m ∙ less-nat k m (omega arith)
 
-more-nat : (k m : ℕ) → m < k → compare k m ≡ Ordering·gt
+pub more-nat : (k m : ℕ) → m < k → compare k m ≡ Ordering·gt
 more-nat zero m h = absurd (omega arith)
 more-nat (suc k) zero h = compare·suc-zero k
 more-nat (suc k) (suc m) h = compare·suc-suc k m ∙ more-nat k m (omega arith)
 
-less-z : (x y : ℤ) → ltZ x y ≡ true → compareZ x y ≡ Ordering·lt
+pub less-z : (x y : ℤ) → ltZ x y ≡ true → compareZ x y ≡ Ordering·lt
 less-z (pos a) (pos b) e = less-nat a b (ltb-true a b e)
 less-z (pos a) (negsuc b) e = absurd (true≢false (sym e))
 less-z (negsuc a) (pos b) e = refl
 less-z (negsuc a) (negsuc b) e = less-nat b a (ltb-true b a e)
 
-more-z : (x y : ℤ) → ltZ x y ≡ false → (x ≡ y → ⊥) → compareZ x y ≡ Ordering·gt
+pub more-z : (x y : ℤ) → ltZ x y ≡ false → (x ≡ y → ⊥) → compareZ x y ≡ Ordering·gt
 more-z (pos a) (pos b) e n = let k = ltb-false a b e in let l : a ≡ b → ⊥ = λ h. n (ap pos h) in more-nat a b (omega arith)
 more-z (pos a) (negsuc b) e n = refl
 more-z (negsuc a) (pos b) e n = absurd (true≢false e)

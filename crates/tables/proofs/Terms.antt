@@ -44,7 +44,7 @@ module _ (acc e d : Exponent) where
   term-sound x h = take-out (holds-bind _ (holds-eq (mul? e d)) λ t _. add-sound acc t) h
 
 -- ---- base exponents in sixteen places
-padded : (k : ℕ) (es : List Exponent) (s : ℕ) (x : Exponent) → s < k → getD (es ++ replicate (k - length es) nought) s x ≡ getD es s nought
+pub padded : (k : ℕ) (es : List Exponent) (s : ℕ) (x : Exponent) → s < k → getD (es ++ replicate (k - length es) nought) s x ≡ getD es s nought
 padded zero es s x h = absurd (omega arith)
 padded (suc k) [] s x h = ap (λ n. getD (replicate n nought) s x) (less (suc k)) ∙ blank (suc k) s h
   where
@@ -73,7 +73,7 @@ push-exps es e s n h =
     ∙ ap (λ k. (es ++ (e ∷ [])) ++ replicate k nought) (sym left)
 
 -- ---- the rows that are gathered
-get-map : {A B : Type 0} (f : A → B) (l : List A) (i : ℕ) (a : A) (b : B) → i < length l → getD (map f l) i b ≡ f (getD l i a)
+pub get-map : {A B : Type 0} (f : A → B) (l : List A) (i : ℕ) (a : A) (b : B) → i < length l → getD (map f l) i b ≡ f (getD l i a)
 get-map f [] i a b h = absurd (omega arith)
 get-map f (x ∷ l) zero a b h = refl
 get-map f (x ∷ l) (suc i) a b h = get-map f l i a b (omega arith)

@@ -57,10 +57,9 @@ pub fn taken(k: Known) -> Known
     k
 }
 
-// acc + e d. A zero d costs nothing.
-fn with_term(acc: Exponent, e: Exponent, d: Exponent) -> Fraction
-    requires { ⌜ (isFaulty e ≡ false) × (isFaulty acc ≡ false) ⌝ }
-    ensures { λ r. ⌜ r ≡ fractionOf (bind (mul? e d) (λ t. add? acc t)) ⌝ }
+// acc + e d, where e and acc keep their rule. A zero d costs nothing.
+pub fn with_term(acc: Exponent, e: Exponent, d: Exponent) -> Fraction
+    ensures { λ r. ⌜ (isFaulty e ≡ false → isFaulty acc ≡ false → r ≡ fractionOf (bind (mul? e d) (λ t. add? acc t))) ⌝ }
 {
     let none = zero();
     if exponents::same(d, none) {
@@ -73,7 +72,7 @@ fn with_term(acc: Exponent, e: Exponent, d: Exponent) -> Fraction
     }
 }
 
-fn no_exps(refusal: u32) -> Exps
+pub fn no_exps(refusal: u32) -> Exps
     ensures { λ r. ⌜ r ≡ noExps refusal ⌝ }
 {
     let none = zero();

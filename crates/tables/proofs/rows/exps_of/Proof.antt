@@ -3,15 +3,15 @@ use borrow.Author.Needs.{needs}
 use mathlib.Core.Path.{_≡_, refl, sym, ap, _∙_}
 use mathlib.Core.Bool.{false}
 use mathlib.Core.List.{List, [], map}
-use Prim.Native.Nat.{_-_, _≤_}
+use Prim.Native.Nat.{ℕ, _-_, _≤_, _<_}
 use native.Mathlib.Omega.{arith}
-use lib.ListN.{length, take, drop, replicate, length-set}
+use lib.ListN.{length, take, drop, getD, replicate, length-set}
 use Rattle.exponents.specs.Fractions.{nought, sum?, faulty}
 use Rattle.exponents.specs.declared.Exponent.{Exponent}
 use Rattle.exponents.proofs.Numbers.{exact-given, refused-refuses}
 use Rattle.exponents.proofs.Sound.{nought-sound}
 use Rattle.tables.specs.Rows.{Facts, bases, defOf, found, packExps}
-use Rattle.tables.proofs.Terms.{unmapped, def-sound, Gathered, termAt, term-sound, inner-on, inner-off, inner-end, Exping, exping-none, exping-on, exping-off, exping-end}
+use Rattle.tables.proofs.Terms.{nilFactor, unmapped, def-sound, Gathered, termAt, term-sound, inner-on, inner-off, inner-end, Exping, exping-none, exping-on, exping-off, exping-end}
 use Rattle.tables.proofs.rows.exps_of.Statement.{statement}
 use Rattle.tables.proofs.rows.exps_of.Tie as tie
 
@@ -39,6 +39,9 @@ abbrev μ-loop : tie.MeasureT-loop
 
 def-full : (c : tie.Start Inv-loop2 μ-loop2 Inv-loop μ-loop) → length (c .args .t1 .def) ≡ 8
 def-full c = search (needs, unmapped)
+
+sound-at : (c : tie.Start Inv-loop2 μ-loop2 Inv-loop μ-loop) (j : ℕ) → j < c .args .t1 .len → faulty (getD (c .args .t1 .def) j nilFactor .exponent) ≡ false
+sound-at c j h = def-sound (c .args .t1) j nilFactor (c .pre .0) (def-full c) h (c .pre .2)
 
 gathered : (c : tie.Start Inv-loop2 μ-loop2 Inv-loop μ-loop) (ks : List Facts) → take (c .args .t1 .len) (c .args .t2) ≡ map (found ks) (defOf (c .args .t1)) → Gathered (c .args .t1) (c .args .t2) ks
 gathered c ks e = record { short = c .pre .0; full = def-full c; are = e }
@@ -76,10 +79,7 @@ element-copy-out-f : tie.Need-element-copy-out-f Inv-loop2 μ-loop2 Inv-loop μ-
 element-copy-out-f c = search needs
 
 with-term-requires : tie.Need-with-term-requires Inv-loop2 μ-loop2 Inv-loop μ-loop
-with-term-requires c κs =
-    let s : tie.Start Inv-loop2 μ-loop2 Inv-loop μ-loop = c .before .before .before .before .before .before .before .before .before .before in
-    let k = c .before .before .before .before .before .before .loop2 in
-    (def-sound (s .args .t1) (k .j) _ (s .pre .0) (def-full s) (omega arith) (s .pre .2), k .inv .1)
+with-term-requires c κs = search needs
 
 enum-known-x : tie.Need-enum-known-x Inv-loop2 μ-loop2 Inv-loop μ-loop
 enum-known-x c = search needs
@@ -99,7 +99,7 @@ returns c ks q =
     c .no-exps .ensures
     ∙ exping-off (defOf (s .args .t1)) (s .args .n) ks (o .out) (o .s) (o .inv .2 ks g) (omega arith) (omega arith) _
     (inner-off (s .args .t1) (s .args .t2) (o .s) (k .j) _ _ (c .before .before .before .before .before .before .before .before .taken .result) (c .before .before .before .before .before .before .before .before .taken .ensures) _ (k .acc) (omega arith) (omega arith) ks g (k .inv .2 ks g) _
-    (refused-refuses _ _ (sym (c .before .before .before .before .with-term .ensures) ∙ c .before .before .x2 .given .1)))
+    (refused-refuses _ _ (sym (c .before .before .before .before .with-term .ensures (sound-at s (k .j) (omega arith)) (k .inv .1)) ∙ c .before .before .x2 .given .1)))
 
 add-j : tie.Need-add-j Inv-loop2 μ-loop2 Inv-loop μ-loop
 add-j c = search needs
@@ -113,7 +113,7 @@ loop2-again c =
     let o = c .before .before .before .before .before .before .before .before .before .before .before .before .loop in
     let k = c .before .before .before .before .before .before .before .before .before .before .loop2 in
     let t = c .before .before .before .before .before .before .before .taken in
-    let x = exact-given _ _ (sym (c .before .before .before .with-term .ensures) ∙ c .before .x .given .1) in (
+    let x = exact-given _ _ (sym (c .before .before .before .with-term .ensures (sound-at s (k .j) (omega arith)) (k .inv .1)) ∙ c .before .x .given .1) in (
       omega arith,
       term-sound (k .acc) _ _ _ x,
       λ ks g. inner-on (s .args .t1) (s .args .t2) (o .s) (k .j) _ _ (t .result) (t .ensures) _ (k .acc) (omega arith) (omega arith) ks g (k .inv .2 ks g) _ x,

@@ -13,10 +13,9 @@ same-requires : tie.Need-same-requires
 same-requires c κs = search needs
 
 returns : tie.Need-returns
-returns c =
-    let s = c .before .before .before in
-    let a = s .args in
-    term-skip (a .acc) (a .e) (a .d) (s .pre .0) (s .pre .1) (ap (same (a .d)) (sym (c .before .before .zero .ensures)) ∙ sym (c .before .same .ensures) ∙ c .if1 .taken)
+returns c he ha =
+    let a = c .before .before .before .args in
+    term-skip (a .acc) (a .e) (a .d) he ha (ap (same (a .d)) (sym (c .before .before .zero .ensures)) ∙ sym (c .before .same .ensures) ∙ c .if1 .taken)
 
 product-requires : tie.Need-product-requires
 product-requires c κs = search needs
@@ -31,12 +30,12 @@ enum-known-t-2 : tie.Need-enum-known-t-2
 enum-known-t-2 c = search needs
 
 returns-2 : tie.Need-returns-2
-returns-2 c =
+returns-2 c he ha =
     let a = c .before .before .before .before .before .before .before .before .args in
     c .sum .ensures ∙ term-on (a .acc) (a .e) (a .d) _ (sym (c .before .before .before .before .product .ensures) ∙ c .before .before .t .given .1)
 
 returns-3 : tie.Need-returns-3
-returns-3 c =
+returns-3 c he ha =
     let a = c .before .before .before .before .before .before .before .args in
     term-off (a .acc) (a .e) (a .d) _ (sym (c .before .before .before .product .ensures) ∙ c .before .t2 .given .1)
 

@@ -1,0 +1,4 @@
+pub mod Checks
+pub mod Given
+pub mod Views
+pub mod Ends

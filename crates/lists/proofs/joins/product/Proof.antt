@@ -1,0 +1,42 @@
+-- `product` meets its contract.
+use borrow.Author.Needs.{needs}
+use mathlib.Core.Path.{ap, _∙_}
+use Rattle.units.specs.Lists as lists
+use Rattle.units.specs.Lists.{madeOf}
+use Rattle.units.proofs.Checked.{goes-on}
+use Rattle.tables.specs.declared.Table.{Table}
+use Rattle.tables.specs.Rows.{admit}
+use Rattle.lists.specs.Opening.{known, table, baseRows}
+use Rattle.lists.specs.Calls.{product}
+use Rattle.lists.proofs.Checks.{admitted-by, table-refuses, made-stops}
+use Rattle.lists.proofs.joins.product.Statement.{statement}
+use Rattle.lists.proofs.joins.product.Tie as tie
+
+admit-requires : tie.Need-admit-requires
+admit-requires c κs = search needs
+
+refused-requires : tie.Need-refused-requires
+refused-requires c κs = search needs
+
+returns : tie.Need-returns
+unfolding product
+returns c =
+    let s = c .before .before .before .before .args in
+    let t = c .before .before .before .admit in
+    c .refused .ensures ∙ made-stops (table (s .rows)) _ _ (table-refuses (baseRows (s .rows)) (admit (s .rows)) (t .result) (t .ensures) (c .before .if1 .taken))
+
+product-requires : tie.Need-product-requires
+product-requires c κs = search needs
+
+returns-2 : tie.Need-returns-2
+unfolding product
+returns-2 c =
+    let d = c .before in
+    let s = d .before .before .before .args in
+    let t = d .before .before .admit in
+    let k = admitted-by (baseRows (s .rows)) (admit (s .rows)) (t .result) (t .ensures) (d .if1 .left) in
+    c .product .ensures ∙ ap (λ n. madeOf (lists.product n (s .a) (s .b))) (ap (λ (y : Table). y .len) (k .table)) ∙ goes-on (table (s .rows)) _ (k .rows) (ap known (k .is))
+
+pub product-spec : {M : Type 1} → statement M
+product-spec =
+    tie.close (tie.spec admit-requires refused-requires returns product-requires returns-2)

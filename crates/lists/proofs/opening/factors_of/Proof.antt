@@ -1,0 +1,82 @@
+-- `factors_of` meets its contract. The invariant: the factors before i stand in o.
+use borrow.Author.Needs.{needs}
+use mathlib.Core.Path.{_≡_}
+use mathlib.Core.List.{map}
+use Prim.Native.Nat.{_-_, _≤_}
+use native.Mathlib.Omega.{arith}
+use lib.ListN.{length, take}
+use Rattle.units.specs.Lists.{pack}
+use Rattle.tables.proofs.Terms.{unmapped}
+use Rattle.canonical.proofs.Seen.{len-items}
+use Rattle.lists.proofs.Given.{factorOf, room, pushed, all-factors}
+use Rattle.lists.proofs.opening.factors_of.Statement.{statement}
+use Rattle.lists.proofs.opening.factors_of.Tie as tie
+
+abbrev Inv-loop : tie.InvT-loop
+Inv-loop l n o₀ i₀ o i = (i ≤ n) × (o ≡ pack (map factorOf (take i (l .at))))
+
+abbrev μ-loop : tie.MeasureT-loop
+μ-loop l n o₀ i₀ o i = n - i
+
+items-full : (c : tie.Start Inv-loop μ-loop) → length (c .args .t1 .at) ≡ 16
+items-full c = search (needs, unmapped)
+
+capped-requires : tie.Need-capped-requires Inv-loop μ-loop
+capped-requires c κs = search needs
+
+empty-requires : tie.Need-empty-requires Inv-loop μ-loop
+empty-requires c κs = search needs
+
+loop-holds : tie.Need-loop-holds Inv-loop μ-loop
+loop-holds c = (omega arith, c .empty .ensures)
+
+mul-x : tie.Need-mul-x Inv-loop μ-loop
+mul-x c = search needs
+
+element-copy-out-x : tie.Need-element-copy-out-x Inv-loop μ-loop
+element-copy-out-x c = search needs
+
+push-requires : tie.Need-push-requires Inv-loop μ-loop
+push-requires c κs =
+    let k = c .before .before .before .loop in
+    let s : tie.Start Inv-loop μ-loop = c .before .before .before .before .before .before in
+    let full = items-full s in
+    room (s .args .t1 .at) (k .i) (k .o) (omega arith) (k .inv .1)
+
+add-i : tie.Need-add-i Inv-loop μ-loop
+add-i c = search needs
+
+loop-less : tie.Need-loop-less Inv-loop μ-loop
+loop-less c = omega arith
+
+loop-again : tie.Need-loop-again Inv-loop μ-loop
+loop-again c =
+    let k = c .before .before .before .before .loop in
+    let s : tie.Start Inv-loop μ-loop = c .before .before .before .before .before .before .before in
+    let full = items-full s in
+    (omega arith, pushed (s .args .t1 .at) (k .i) _ (k .o) (c .push .result) (omega arith) (k .inv .1) (c .push .ensures))
+
+returns : tie.Need-returns Inv-loop μ-loop
+returns c v fs e h =
+    let k = c .before .loop in
+    let m = c .before .before .before in
+    let n = len-items v fs (m .before .args .t1) e in
+    let same = m .capped .ensures .1 (omega arith) in
+    all-factors v fs (m .before .args .t1) e (k .i) (k .o) (omega arith) (k .inv .1)
+
+pub factors-of-spec : {M : Type 1} → statement M
+factors-of-spec =
+    tie.close
+    (tie.spec
+    Inv-loop
+    μ-loop
+    capped-requires
+    empty-requires
+    loop-holds
+    mul-x
+    element-copy-out-x
+    push-requires
+    add-i
+    loop-less
+    loop-again
+    returns)

@@ -1,0 +1,6 @@
+// The calls on lists over a table (01, "The refusals", "Canonical form", "Powers and scales", "Simplification"). None asks anything of its caller.
+// `joins`: `product`, `quotient`, `list_power`. `forms`: `canonical`, `same_list`. `reductions`: `reduce_list`, `smaller_unit`, `is_multiple_of`.
+pub mod opening; // a table and two lists, checked
+pub mod joins; // lists joined, unmerged
+pub mod forms; // canonical form, equality
+pub mod reductions; // base exponents and scales

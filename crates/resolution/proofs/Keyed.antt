@@ -1,0 +1,37 @@
+-- An admitted table has few rows, each with its key: what resolving a list asks of it.
+use mathlib.Core.Path.{_≡_, refl}
+use mathlib.Core.Bool.{Bool, true, false}
+use mathlib.Core.List.{List, []}
+use Prim.Native.Nat.{ℕ, _≤_}
+use native.Mathlib.Omega.{arith}
+use lib.Dec.{ltb}
+use lib.ListN.{length, length-take}
+use borrow.Author.Tests.{ltb-false}
+use Rattle.exponents.specs.Outcome.{TABLE}
+use Rattle.units.specs.declared.Kind.the-variants.{Base}
+use Rattle.units.specs.declared.Row.{Row}
+use Rattle.units.specs.declared.Rows.{Rows}
+use Rattle.tables.specs.declared.Slot.{Slot}
+use Rattle.tables.specs.Rows.{pick, Facts, slots, Admission, admitted, stopped, admitFrom, rowsOf, admit}
+use Rattle.resolution.specs.Resolve.{Keyed}
+use Rattle.tables.proofs.Filled.{admit-rows, table-length, row-known}
+
+anyRow : Row
+anyRow = record { def = []; len = 0; rank = 0; kind = Base }
+
+pub admitted-keyed : (ss : List Slot) (rs : List Row) (ks : List Facts) → admitFrom ss [] rs ≡ admitted ks → length rs ≤ 128 → Keyed ks
+admitted-keyed ss rs ks h few = record {
+  few = omega (arith, table-length ss rs ks h);
+  keys = λ i p. row-known ss rs ks h anyRow i (omega (arith, table-length ss rs ks h)) .key;
+}
+
+few-rows : (r : Rows) (ks : List Facts) → admit r ≡ admitted ks → length (rowsOf r) ≤ 128
+unfolding admit
+few-rows r ks e = let n = ltb-false 128 (r .len) (go (ltb 128 (r .len)) _ e) in simp length-take (omega arith)
+  where
+    go : (t : Bool) (a : Admission) → pick t (stopped TABLE []) a ≡ admitted ks → t ≡ false
+    go true a e = absurd (let z : _≡_ {A = ℕ} 0 1 = cc in omega arith)
+    go false a e = refl
+
+pub admit-keyed : (r : Rows) (ks : List Facts) → admit r ≡ admitted ks → Keyed ks
+admit-keyed r ks e = admitted-keyed (slots (rowsOf r)) (rowsOf r) ks (admit-rows r ks e) (few-rows r ks e)

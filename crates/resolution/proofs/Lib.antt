@@ -1,0 +1,8 @@
+pub mod KeyPads
+pub mod Before
+pub mod Naming
+pub mod Resolving
+pub mod Gathering
+pub mod Keyed
+pub mod Ordered
+pub mod Viewed
