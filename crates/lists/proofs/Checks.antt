@@ -11,7 +11,7 @@ use Rattle.exponents.proofs.Numbers.{number-pos, Refuses}
 use Rattle.units.specs.declared.Factor.{Factor}
 use Rattle.units.specs.declared.Factors.{Factors}
 use Rattle.units.specs.declared.Rows.{Rows}
-use Rattle.units.specs.Lists.{listOf, pack, refusedBy, madeOf, some, factorFault, checked, both}
+use Rattle.units.specs.Lists.{listOf, pack, some, factorFault, checked, both}
 use Rattle.units.proofs.Checked.{short, no-fault, first-passed, second-passed, both-pass}
 use Rattle.tables.specs.declared.Slot.{Slot}
 use Rattle.tables.specs.declared.Slots.{Slots}
@@ -38,10 +38,6 @@ module _ (ss : List Slot) where
   pub table-refuses : (a : Admission) (x : Table) → x ≡ tableOf ss a → (x .refusal ≡ 0 → ⊥) → Refuses (known a) (x .refusal)
   table-refuses (admitted ks) x e h = absurd (h (ap (λ (y : Table). y .refusal) e))
   table-refuses (stopped r ks) x e h = record { why = r; is = refl; numbered = sym (ap (λ (y : Table). y .refusal) e) }
-
--- a call that answers a list stops
-pub made-stops : {A : Type 0} (o : Outcome A) (f : A → Outcome (List Factor)) (n : ℕ) → Refuses o n → refusedBy n ≡ madeOf (bind o f)
-made-stops o f n r = ap refusedBy (sym (r .numbered)) ∙ ap madeOf (sym (bind-refused f (r .is)))
 
 -- ---- two lists resolved
 

@@ -4,9 +4,9 @@ use mathlib.Core.Bool.{Bool, true, false}
 use mathlib.Core.List.{List}
 use Prim.Native.Nat.{ℕ}
 use native.Mathlib.Omega.{arith}
-use lib.Ieee.{Float}
 use lib.ListN.{length}
-use Rattle.exponents.specs.Outcome.{Outcome, given, refused, number, map}
+use Rattle.exponents.specs.Outcome.{Refusal, Outcome, given, refused, number, map, bind}
+use Rattle.exponents.proofs.Holds.{bind-refused}
 use Rattle.exponents.proofs.Numbers.{Refuses}
 use Rattle.units.specs.declared.Factor.{Factor}
 use Rattle.units.specs.declared.Factors.{Factors}
@@ -18,26 +18,18 @@ use Rattle.tables.specs.Rows.{pick, Facts, rowsOf, packSlots}
 use Rattle.tables.specs.Items.{viewOf, viewBases}
 use Rattle.tables.proofs.Slotting.{slots-few}
 use Rattle.resolution.proofs.Viewed.{view-bases}
-use Rattle.canonical.specs.Equality.{verdictOf}
-use Rattle.canonical.specs.declared.equality.Verdict.the-variants as verdict
-use Rattle.reduction.specs.Multiple.{Maybe, multipleIs}
-use Rattle.reduction.specs.Reduction.{notReduced, reducedOf, smallerOf}
+use Rattle.reduction.specs.Reduction.{smallerOf}
 use Rattle.reduction.specs.declared.reduce.Smaller.the-variants as smaller
-use Rattle.reduction.specs.declared.multiples.Multiple.the-variants as multiple
 use Rattle.lists.specs.Opening.{baseRows}
 use Rattle.lists.specs.Calls.{basesIn}
 
-pub verdict-refused : (o : Outcome Bool) (n : ℕ) → Refuses o n → verdict.Refused n ≡ verdictOf o
-verdict-refused o n r = ap verdict.Refused (sym (r .numbered)) ∙ ap verdictOf (sym (r .is))
+-- a refusal handed over: `hand` is how a call hands its outcome over, `empty` what that is for a refusal's number
+pub handed : {A B : Type 0} (empty : ℕ → B) (hand : Outcome A → B) → ((r : Refusal) → empty (number r) ≡ hand (refused r)) → (o : Outcome A) (n : ℕ) → Refuses o n → empty n ≡ hand o
+handed empty hand e o n r = ap empty (sym (r .numbered)) ∙ e (r .why) ∙ ap hand (sym (r .is))
 
-pub multiple-refused : (o : Outcome Maybe) (n : ℕ) → Refuses o n → multiple.Refused n ≡ multipleIs o
-multiple-refused o n r = ap multiple.Refused (sym (r .numbered)) ∙ ap multipleIs (sym (r .is))
-
-pub reduced-refused : (o : Outcome (List Factor × Float)) (n : ℕ) → Refuses o n → notReduced n ≡ reducedOf o
-reduced-refused o n r = ap notReduced (sym (r .numbered)) ∙ ap reducedOf (sym (r .is))
-
-pub made-refused : (o : Outcome (List Factor)) (n : ℕ) → Refuses o n → refusedBy n ≡ madeOf o
-made-refused o n r = ap refusedBy (sym (r .numbered)) ∙ ap madeOf (sym (r .is))
+-- what goes on after a refusal refuses too
+pub bind-refuses : {A B : Type 0} (o : Outcome A) (f : A → Outcome B) (n : ℕ) → Refuses o n → Refuses (bind o f) n
+bind-refuses o f n r = record { why = r .why; is = bind-refused f (r .is); numbered = r .numbered }
 
 pub made-given : (o : Outcome (List Factor)) (fs : List Factor) (u : Factors) → o ≡ given fs → u ≡ pack fs → record { unit = u; refusal = 0 } ≡ madeOf o
 made-given o fs u e h = (λ i. record { unit = h i; refusal = 0 }) ∙ ap madeOf (sym e)

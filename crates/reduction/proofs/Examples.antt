@@ -1,4 +1,4 @@
--- Reductions, smaller units and multiples computed from the definitions: three tables, each with its one statement.
+-- Reductions, smaller units and multiples computed from the definitions: three tables, each with its one statement. What is expected was worked out by hand from 01; each statement computes it from the definitions.
 use mathlib.Core.Path.{_≡_, refl}
 use mathlib.Core.Bool.{Bool, true, false}
 use mathlib.Core.List.{List, [], _∷_, map}

@@ -1,12 +1,12 @@
 -- `canonical` meets its contract.
 use borrow.Author.Needs.{needs}
-use mathlib.Core.Path.{sym, ap, _∙_}
+use mathlib.Core.Path.{refl, sym, ap, _∙_}
 use mathlib.Core.List.{List, []}
 use native.Mathlib.Omega.{arith}
 use Rattle.exponents.specs.Outcome.{Outcome}
 use Rattle.exponents.proofs.Holds.{take-out}
 use Rattle.units.specs.declared.Factor.{Factor}
-use Rattle.units.specs.Lists.{pack, madeOf}
+use Rattle.units.specs.Lists.{refusedBy, pack, madeOf}
 use Rattle.tables.specs.Rows.{Facts}
 use Rattle.canonical.specs.Order.{orderIn, byPlace}
 use Rattle.canonical.specs.Canonical.{canon}
@@ -14,7 +14,7 @@ use Rattle.canonical.proofs.Judged.{canon-short, formed, unformed}
 use Rattle.lists.specs.Opening.{baseRows, opening, openedOf}
 use Rattle.lists.specs.Calls as spec
 use Rattle.lists.proofs.Checks.{open-by, unopened-by, call-refuses, call-goes, with-none, lists-known}
-use Rattle.lists.proofs.Ends.{made-refused, made-given}
+use Rattle.lists.proofs.Ends.{handed, made-given}
 use Rattle.lists.proofs.Views.{view, first-form}
 use Rattle.lists.proofs.forms.canonical.Statement.{statement}
 use Rattle.lists.proofs.forms.canonical.Tie as tie
@@ -38,7 +38,7 @@ returns c =
     let x = c .before .before .before .open-lists in
     let e = x .ensures ∙ ap (λ b. openedOf (baseRows (s .rows)) (opening (s .rows) (s .l) b)) (c .before .before .before .before .empty .ensures) in
     let r = call-refuses (s .rows) (s .l) (pack []) (λ ks fs gs. work ks fs) _ (unopened-by (baseRows (s .rows)) _ (x .result) e (c .before .if1 .taken)) in
-    c .refused .ensures ∙ made-refused _ _ r ∙ ap madeOf (sym (with-none (s .rows) (s .l) work))
+    c .refused .ensures ∙ handed refusedBy madeOf (λ r. refl) _ _ r ∙ ap madeOf (sym (with-none (s .rows) (s .l) work))
 
 canonical-requires : tie.Need-canonical-requires
 canonical-requires c κs = search needs
@@ -59,7 +59,7 @@ returns-2 c =
     let v = view (o .are .rows) (o .are .first) (o .are .second) in
     let f = y .canonical .ensures v (o .are .first) (o .first) (k .first-short) in
     let same = first-form (o .are .rows) (o .are .first) (o .are .second) ∙ sym (with-none (s .rows) (s .l) work ∙ call-goes (s .rows) (s .l) (pack []) (λ ks fs gs. work ks fs) (o .are) (o .is)) in
-    c .refused2 .ensures ∙ made-refused (canon (byPlace v) (o .are .first)) _ (unformed v (canon (byPlace v) (o .are .first)) (y .canonical .result) f (c .before .if2 .taken)) ∙ ap madeOf same
+    c .refused2 .ensures ∙ handed refusedBy madeOf (λ r. refl) (canon (byPlace v) (o .are .first)) _ (unformed v (canon (byPlace v) (o .are .first)) (y .canonical .result) f (c .before .if2 .taken)) ∙ ap madeOf same
 
 factors-of-requires : tie.Need-factors-of-requires
 factors-of-requires c κs = search needs

@@ -1,6 +1,6 @@
 -- `same_list` meets its contract.
 use borrow.Author.Needs.{needs}
-use mathlib.Core.Path.{sym, ap, _∙_}
+use mathlib.Core.Path.{refl, sym, ap, _∙_}
 use mathlib.Core.Bool.{Bool}
 use mathlib.Core.List.{List}
 use Rattle.exponents.specs.Outcome.{Outcome}
@@ -8,10 +8,11 @@ use Rattle.units.specs.declared.Factor.{Factor}
 use Rattle.tables.specs.Rows.{Facts}
 use Rattle.canonical.specs.Order.{orderIn}
 use Rattle.canonical.specs.Equality.{equal, verdictOf}
+use Rattle.canonical.specs.declared.equality.Verdict.the-variants as verdict
 use Rattle.lists.specs.Opening.{baseRows}
 use Rattle.lists.specs.Calls.{sameLists}
 use Rattle.lists.proofs.Checks.{open-by, unopened-by, call-refuses, call-goes, lists-known}
-use Rattle.lists.proofs.Ends.{verdict-refused}
+use Rattle.lists.proofs.Ends.{handed}
 use Rattle.lists.proofs.Views.{view, equal-agrees}
 use Rattle.lists.proofs.forms.same_list.Statement.{statement}
 use Rattle.lists.proofs.forms.same_list.Tie as tie
@@ -27,7 +28,7 @@ unfolding sameLists
 returns c =
     let s = c .before .before .before .args in
     let x = c .before .before .open-lists in
-    verdict-refused _ _ (call-refuses (s .rows) (s .a) (s .b) work _ (unopened-by (baseRows (s .rows)) _ (x .result) (x .ensures) (c .if1 .taken)))
+    handed verdict.Refused verdictOf (λ r. refl) _ _ (call-refuses (s .rows) (s .a) (s .b) work _ (unopened-by (baseRows (s .rows)) _ (x .result) (x .ensures) (c .if1 .taken)))
 
 equal-requires : tie.Need-equal-requires
 equal-requires c κs = search needs

@@ -1,14 +1,15 @@
 -- `quotient` meets its contract.
 use borrow.Author.Needs.{needs}
-use mathlib.Core.Path.{ap, _∙_}
+use mathlib.Core.Path.{refl, ap, _∙_}
 use Rattle.units.specs.Lists as lists
-use Rattle.units.specs.Lists.{madeOf}
+use Rattle.units.specs.Lists.{refusedBy, madeOf}
 use Rattle.units.proofs.Checked.{goes-on}
 use Rattle.tables.specs.declared.Table.{Table}
 use Rattle.tables.specs.Rows.{admit}
 use Rattle.lists.specs.Opening.{known, table, baseRows}
 use Rattle.lists.specs.Calls.{quotient}
-use Rattle.lists.proofs.Checks.{admitted-by, table-refuses, made-stops}
+use Rattle.lists.proofs.Checks.{admitted-by, table-refuses}
+use Rattle.lists.proofs.Ends.{handed, bind-refuses}
 use Rattle.lists.proofs.joins.quotient.Statement.{statement}
 use Rattle.lists.proofs.joins.quotient.Tie as tie
 
@@ -23,7 +24,7 @@ unfolding quotient
 returns c =
     let s = c .before .before .before .before .args in
     let t = c .before .before .before .admit in
-    c .refused .ensures ∙ made-stops (table (s .rows)) _ _ (table-refuses (baseRows (s .rows)) (admit (s .rows)) (t .result) (t .ensures) (c .before .if1 .taken))
+    c .refused .ensures ∙ handed refusedBy madeOf (λ r. refl) _ _ (bind-refuses (table (s .rows)) _ _ (table-refuses (baseRows (s .rows)) (admit (s .rows)) (t .result) (t .ensures) (c .before .if1 .taken)))
 
 quotient-requires : tie.Need-quotient-requires
 quotient-requires c κs = search needs

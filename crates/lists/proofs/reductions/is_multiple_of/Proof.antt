@@ -1,6 +1,6 @@
 -- `is_multiple_of` meets its contract.
 use borrow.Author.Needs.{needs}
-use mathlib.Core.Path.{sym, ap, _∙_}
+use mathlib.Core.Path.{refl, sym, ap, _∙_}
 use mathlib.Core.List.{List, _++_}
 use native.Mathlib.Omega.{arith}
 use Rattle.exponents.specs.Outcome.{Outcome}
@@ -9,10 +9,11 @@ use Rattle.units.specs.declared.Rows.{Rows}
 use Rattle.tables.specs.Rows.{Facts, rowsOf}
 use Rattle.tables.proofs.Slotting.{slots-few}
 use Rattle.reduction.specs.Multiple.{Maybe, isMultiple, multipleIs}
+use Rattle.reduction.specs.declared.multiples.Multiple.the-variants as multiples
 use Rattle.lists.specs.Opening.{baseRows}
 use Rattle.lists.specs.Calls.{basesIn, multiple}
 use Rattle.lists.proofs.Checks.{open-by, unopened-by, call-refuses, call-goes, lists-known}
-use Rattle.lists.proofs.Ends.{multiple-refused, slots-len, bases-agree}
+use Rattle.lists.proofs.Ends.{handed, slots-len, bases-agree}
 use Rattle.lists.proofs.Views.{view}
 use Rattle.lists.proofs.reductions.is_multiple_of.Statement.{statement}
 use Rattle.lists.proofs.reductions.is_multiple_of.Tie as tie
@@ -28,7 +29,7 @@ unfolding multiple
 returns c =
     let s = c .before .before .before .args in
     let x = c .before .before .open-lists in
-    multiple-refused _ _ (call-refuses (s .rows) (s .a) (s .b) (work (s .rows)) _ (unopened-by (baseRows (s .rows)) _ (x .result) (x .ensures) (c .if1 .taken)))
+    handed multiples.Refused multipleIs (λ r. refl) _ _ (call-refuses (s .rows) (s .a) (s .b) (work (s .rows)) _ (unopened-by (baseRows (s .rows)) _ (x .result) (x .ensures) (c .if1 .taken)))
 
 is-multiple-of-requires : tie.Need-is-multiple-of-requires
 is-multiple-of-requires c κs = search needs

@@ -11,12 +11,12 @@ use Rattle.units.specs.Lists.{pack}
 use Rattle.tables.specs.Scale.{sizeBy}
 use Rattle.tables.specs.Rows.{Facts, scaleAt, rowsOf}
 use Rattle.tables.proofs.Slotting.{slots-few}
-use Rattle.reduction.specs.Reduction.{reduction, reducedOf}
+use Rattle.reduction.specs.Reduction.{reduction, notReduced, reducedOf}
 use Rattle.lists.specs.Opening.{baseRows, opening, openedOf}
 use Rattle.lists.specs.Calls as spec
 use Rattle.lists.specs.Calls.{basesIn}
 use Rattle.lists.proofs.Checks.{open-by, unopened-by, call-refuses, call-goes, with-none, lists-known}
-use Rattle.lists.proofs.Ends.{reduced-refused, bases-agree}
+use Rattle.lists.proofs.Ends.{handed, bases-agree}
 use Rattle.lists.proofs.Views.{view}
 use Rattle.lists.proofs.reductions.reduce_list.Statement.{statement}
 use Rattle.lists.proofs.reductions.reduce_list.Tie as tie
@@ -40,7 +40,7 @@ returns c =
     let x = c .before .before .before .open-lists in
     let e = x .ensures ∙ ap (λ b. openedOf (baseRows (s .rows)) (opening (s .rows) (s .l) b)) (c .before .before .before .before .empty .ensures) in
     let r = call-refuses (s .rows) (s .l) (pack []) (λ ks fs gs. work (s .rows) ks fs) _ (unopened-by (baseRows (s .rows)) _ (x .result) e (c .before .if1 .taken)) in
-    c .not-reduced .ensures ∙ reduced-refused _ _ r ∙ ap reducedOf (sym (with-none (s .rows) (s .l) (work (s .rows))))
+    c .not-reduced .ensures ∙ handed notReduced reducedOf (λ r. refl) _ _ r ∙ ap reducedOf (sym (with-none (s .rows) (s .l) (work (s .rows))))
 
 reduce-list-requires : tie.Need-reduce-list-requires
 reduce-list-requires c κs = search needs

@@ -1,12 +1,12 @@
 -- `smaller_unit` meets its contract.
 use borrow.Author.Needs.{needs}
-use mathlib.Core.Path.{sym, ap, _∙_}
+use mathlib.Core.Path.{refl, sym, ap, _∙_}
 use mathlib.Core.List.{List, _++_}
 use native.Mathlib.Omega.{arith}
 use Rattle.exponents.specs.Outcome.{Outcome, map}
 use Rattle.units.specs.declared.Factor.{Factor}
 use Rattle.units.specs.declared.Rows.{Rows}
-use Rattle.units.specs.Lists.{madeOf}
+use Rattle.units.specs.Lists.{refusedBy, madeOf}
 use Rattle.tables.specs.Scale.{sizeBy}
 use Rattle.tables.specs.Rows.{pick, Facts, scaleAt, rowsOf}
 use Rattle.tables.proofs.Slotting.{slots-few}
@@ -15,7 +15,7 @@ use Rattle.lists.specs.Opening.{baseRows}
 use Rattle.lists.specs.Calls as spec
 use Rattle.lists.specs.Calls.{basesIn}
 use Rattle.lists.proofs.Checks.{open-by, unopened-by, call-refuses, call-goes, lists-known}
-use Rattle.lists.proofs.Ends.{made-refused, first-chosen, second-chosen, neither-chosen, slots-len, bases-agree}
+use Rattle.lists.proofs.Ends.{handed, first-chosen, second-chosen, neither-chosen, slots-len, bases-agree}
 use Rattle.lists.proofs.Views.{view}
 use Rattle.lists.proofs.reductions.smaller_unit.Statement.{statement}
 use Rattle.lists.proofs.reductions.smaller_unit.Tie as tie
@@ -34,7 +34,7 @@ unfolding spec.smallerUnit
 returns c =
     let s = c .before .before .before .before .args in
     let x = c .before .before .before .open-lists in
-    c .refused .ensures ∙ made-refused _ _ (call-refuses (s .rows) (s .a) (s .b) (work (s .rows)) _ (unopened-by (baseRows (s .rows)) _ (x .result) (x .ensures) (c .before .if1 .taken)))
+    c .refused .ensures ∙ handed refusedBy madeOf (λ r. refl) _ _ (call-refuses (s .rows) (s .a) (s .b) (work (s .rows)) _ (unopened-by (baseRows (s .rows)) _ (x .result) (x .ensures) (c .before .if1 .taken)))
 
 smaller-unit-requires : tie.Need-smaller-unit-requires
 smaller-unit-requires c κs = search needs
