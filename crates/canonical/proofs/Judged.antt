@@ -5,10 +5,10 @@ use mathlib.Core.List.{List, [], _∷_}
 use Prim.Native.Nat.{ℕ, suc, _+_, _≤_, Ordering, Ordering·lt, Ordering·eq, Ordering·gt}
 use native.Mathlib.Omega.{arith}
 use lib.ListN.{length}
-use Rattle.exponents.specs.Outcome.{Outcome, given, refused, map}
+use Rattle.exponents.specs.Outcome.{Outcome, given, map}
 use Rattle.exponents.specs.Fractions.{add?}
 use Rattle.exponents.proofs.Holds.{Holds, held, holds-any, holds-map, holds-bind, bind-given, bind-refused}
-use Rattle.exponents.proofs.Numbers.{number-pos, Refuses}
+use Rattle.exponents.proofs.Numbers.{Refuses, struct-answers, struct-refuses}
 use Rattle.units.specs.declared.Factor.{Factor}
 use Rattle.tables.specs.Items.{View, packItems}
 use Rattle.canonical.specs.Order.{Atom}
@@ -61,12 +61,12 @@ pub record Formed (v : View) (o : Outcome (List Factor)) (x : Form) : Type 0 whe
 
 module _ (v : View) where
   pub formed : (o : Outcome (List Factor)) (x : Form) → x ≡ formOf v o → x .refusal ≡ 0 → Formed v o x
-  formed (given c) x e h = record { answer = c; is = refl; list = ap (λ (y : Form). y .list) e }
-  formed (refused r) x e h = absurd (omega (arith, number-pos r, ap (λ (y : Form). y .refusal) e))
+  formed o x e h =
+      let a = struct-answers (formOf v) (λ (y : Form). y .refusal) (λ c. refl) (λ r. refl) o x e h in
+      record { answer = a .answer; is = a .is; list = ap (λ (y : Form). y .list) (e ∙ ap (formOf v) (a .is)) }
 
   pub unformed : (o : Outcome (List Factor)) (x : Form) → x ≡ formOf v o → (x .refusal ≡ 0 → ⊥) → Refuses o (x .refusal)
-  unformed (given c) x e h = absurd (h (ap (λ (y : Form). y .refusal) e))
-  unformed (refused r) x e h = record { why = r; is = refl; numbered = sym (ap (λ (y : Form). y .refusal) e) }
+  unformed = struct-refuses (formOf v) (λ (y : Form). y .refusal) (λ c. refl) (λ r. refl)
 
 -- ---- how the comparison ends
 module _ (cmp : Atom → Atom → Ordering) (l m : List Factor) where

@@ -14,5 +14,6 @@ pub mod Gathering
 pub mod Seen
 pub mod Rebuilding
 pub mod Walked
+pub mod Keeping
 pub mod Agree
 pub mod Judged

@@ -1,12 +1,13 @@
 -- An outcome read back from what code hands over: a number that is 0 or a refusal's, or a `Fraction`.
-use mathlib.Core.Path.{_≡_, refl, sym}
+use mathlib.Core.Path.{_≡_, refl, sym, ap, _∙_}
 use mathlib.Core.Bool.{Bool, true, false}
 use Prim.Native.Nat.{ℕ, _<_}
 use native.Mathlib.Omega.{arith}
 use Rattle.exponents.specs.Outcome.{Refusal, TABLE, SHAPE, UNKNOWN, ROOM, RANGE, UNITS, FRACTION, DIVZERO, ZERONEG, NONWHOLE, NAN, number, Outcome, given, refused, unless, map, refusalOf}
-use Rattle.exponents.specs.Fractions.{fractionOf}
+use Rattle.exponents.specs.Fractions.{neg, faulty, neg?, fractionOf}
 use Rattle.exponents.specs.declared.Exponent.{Exponent}
 use Rattle.exponents.specs.declared.Fraction.the-variants.{Exact, Refused}
+use Rattle.exponents.proofs.InRange.{neg?-given}
 
 pub number-pos : (r : Refusal) → 0 < number r
 number-pos TABLE = omega arith
@@ -41,6 +42,18 @@ module _ {A : Type 0} where
   refuses (given a) n e h = absurd (h e)
   refuses (refused r) n e h = record { why = r; is = refl; numbered = sym e }
 
+  -- a struct that has the refusal's number in a field: `hand` is how code hands an outcome over
+  module _ {S : Type 0} (hand : Outcome A → S) (field : S → ℕ) (zero : (a : A) → field (hand (given a)) ≡ 0) (numbered : (r : Refusal) → field (hand (refused r)) ≡ number r) where
+    field-is : (o : Outcome A) → field (hand o) ≡ refusalOf o
+    field-is (given a) = zero a
+    field-is (refused r) = numbered r
+
+    pub struct-answers : (o : Outcome A) (x : S) → x ≡ hand o → field x ≡ 0 → Answers o
+    struct-answers o x e h = answers o (field x) (ap field e ∙ field-is o) h
+
+    pub struct-refuses : (o : Outcome A) (x : S) → x ≡ hand o → (field x ≡ 0 → ⊥) → Refuses o (field x)
+    struct-refuses o x e h = refuses o (field x) (ap field e ∙ field-is o) h
+
   -- a fault that was passed
   pub unless-passed : (t : Bool) (r : Refusal) (o : Outcome A) → refusalOf (unless t r o) ≡ 0 → t ≡ false
   unfolding unless
@@ -58,3 +71,17 @@ exact-given (refused r) x e = let z : _≡_ {A = ℕ} 0 1 = cc in absurd (omega 
 pub refused-refuses : (o : Outcome Exponent) (n : ℕ) → fractionOf o ≡ Refused n → Refuses o n
 refused-refuses (given y) n e = let z : _≡_ {A = ℕ} 0 1 = cc in absurd (omega arith)
 refused-refuses (refused r) n e = record { why = r; is = refl; numbered = cc }
+
+-- ---- an exponent that keeps its rule, negated as code does it
+module _ (x : Exponent) (h : faulty x ≡ false) where
+  pub negated-is : (y : Exponent) → fractionOf (neg? x) ≡ Exact y → y ≡ neg x
+  negated-is y e = same (sym (exact-given (neg? x) y e) ∙ neg?-given x h)
+    where
+      same : {x y : Exponent} → _≡_ {A = Outcome Exponent} (given x) (given y) → x ≡ y
+      same p = cc
+
+  pub always-negated : (n : ℕ) → fractionOf (neg? x) ≡ Refused n → ⊥
+  always-negated n e = clash (sym (neg?-given x h) ∙ refused-refuses (neg? x) n e .is)
+    where
+      clash : {x : Exponent} {r : Refusal} → given x ≡ refused r → ⊥
+      clash p = let z : _≡_ {A = ℕ} 0 1 = cc in omega arith

@@ -7,7 +7,7 @@ use native.Mathlib.Omega.{arith}
 use lib.ListN.{length, length-take}
 use Rattle.exponents.specs.Outcome.{Outcome, given, refused, unless, map, bind, refusalOf}
 use Rattle.exponents.proofs.Holds.{bind-given, bind-refused}
-use Rattle.exponents.proofs.Numbers.{number-pos, Refuses}
+use Rattle.exponents.proofs.Numbers.{number-pos, Refuses, struct-answers, struct-refuses}
 use Rattle.units.specs.declared.Factor.{Factor}
 use Rattle.units.specs.declared.Factors.{Factors}
 use Rattle.units.specs.declared.Rows.{Rows}
@@ -49,8 +49,7 @@ lay ks p = record { rows = ks; first = p .0; second = p .1 }
 
 module _ (ks : List Facts) where
   pub lists-refuse : (o : Outcome Pair) (x : Resolved) → x ≡ resolvedOf ks o → (x .refusal ≡ 0 → ⊥) → Refuses o (x .refusal)
-  lists-refuse (given p) x e h = absurd (h (ap (λ (y : Resolved). y .refusal) e))
-  lists-refuse (refused r) x e h = record { why = r; is = refl; numbered = sym (ap (λ (y : Resolved). y .refusal) e) }
+  lists-refuse = struct-refuses (resolvedOf ks) (λ (y : Resolved). y .refusal) (λ p. refl) (λ r. refl)
 
   laid : (ss : List Slot) (o : Outcome Pair) (x : Resolved) (s : Slots) → x ≡ resolvedOf ks o → x .refusal ≡ 0 → s ≡ packSlots ss
       → record { a = x .a; b = x .b; slots = s; refusal = 0 } ≡ openedOf ss (map (lay ks) o)
@@ -86,12 +85,13 @@ pub record Open (ss : List Slot) (o : Outcome Opening) (x : Opened) : Type 0 whe
 
 module _ (ss : List Slot) where
   pub open-by : (o : Outcome Opening) (x : Opened) → x ≡ openedOf ss o → x .refusal ≡ 0 → Open ss o x
-  open-by (given p) x e h = record { are = p; is = refl; first = ap (λ (y : Opened). y .a) e; second = ap (λ (y : Opened). y .b) e; slots = ap (λ (y : Opened). y .slots) e }
-  open-by (refused r) x e h = absurd (omega (arith, number-pos r, ap (λ (y : Opened). y .refusal) e))
+  open-by o x e h =
+      let a = struct-answers (openedOf ss) (λ (y : Opened). y .refusal) (λ p. refl) (λ r. refl) o x e h in
+      let q = e ∙ ap (openedOf ss) (a .is) in
+      record { are = a .answer; is = a .is; first = ap (λ (y : Opened). y .a) q; second = ap (λ (y : Opened). y .b) q; slots = ap (λ (y : Opened). y .slots) q }
 
   pub unopened-by : (o : Outcome Opening) (x : Opened) → x ≡ openedOf ss o → (x .refusal ≡ 0 → ⊥) → Refuses o (x .refusal)
-  unopened-by (given p) x e h = absurd (h (ap (λ (y : Opened). y .refusal) e))
-  unopened-by (refused r) x e h = record { why = r; is = refl; numbered = sym (ap (λ (y : Opened). y .refusal) e) }
+  unopened-by = struct-refuses (openedOf ss) (λ (y : Opened). y .refusal) (λ p. refl) (λ r. refl)
 
 -- a call on two lists: W is its own work
 module _ {A : Type 0} (t : Rows) (a b : Factors) (W : List Facts → List Factor → List Factor → Outcome A) where

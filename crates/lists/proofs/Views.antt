@@ -16,26 +16,27 @@ use Rattle.canonical.specs.Equality.{equal}
 use Rattle.canonical.proofs.Agree.{Atoms, AgreeOn, canon-agrees, same-forms-agree}
 
 module _ (ks : List Facts) (fs gs : List Factor) where
-  abbrev all : List Factor
+  abbrev pub all : List Factor
   all = fs ++ gs
 
   abbrev pub view : View
   view = viewOf ks all
 
-  abbrev Named : Atom → Type 0
+  -- an atom of the lists
+  abbrev pub Named : Atom → Type 0
   Named u = Stands (u .row) all
 
-  places-agree : AgreeOn Named (byPlace view) (orderIn ks)
+  pub places-agree : AgreeOn Named (byPlace view) (orderIn ks)
   places-agree u w p q = ap (λ o. then o (pairs (code (u .prefix)) (code (w .prefix)))) (place-tells ks all (u .row) (w .row) p q)
 
   own : (l : List Factor) → All (λ f. Stands (f .row) l) l
   own [] = tt
   own (f ∷ l) = (inl refl, all-imp l (λ g s. inr s) (own l))
 
-  first-named : Atoms Named fs
+  pub first-named : Atoms Named fs
   first-named = all-imp fs (λ f s. stands-first (f .row) fs gs s) (own fs)
 
-  second-named : Atoms Named gs
+  pub second-named : Atoms Named gs
   second-named = all-imp gs (λ f s. stands-second (f .row) fs gs s) (own gs)
 
   pub first-form : canon (byPlace view) fs ≡ canon (orderIn ks) fs

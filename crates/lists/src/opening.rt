@@ -24,7 +24,7 @@ pub struct Opened {
 fn unopened(refusal: u32) -> Opened
     ensures { λ r. ⌜ r ≡ spec.unopened refusal ⌝ }
 {
-    let none = resolution::no_items();
+    let none = tables::no_items();
     let slots = tables::ranked::no_slots();
     Opened {
         a: none,

@@ -1,13 +1,12 @@
 -- Base exponents as code hands them over, read back: an answer in sixteen places, or a refusal's number.
-use mathlib.Core.Path.{_≡_, refl, sym, ap, _∙_}
+use mathlib.Core.Path.{_≡_, refl, ap, _∙_}
 use mathlib.Core.List.{List}
 use Prim.Native.Nat.{ℕ, zero, suc}
-use native.Mathlib.Omega.{arith}
 use lib.ListN.{length, length-map}
-use Rattle.exponents.specs.Outcome.{Outcome, given, refused}
+use Rattle.exponents.specs.Outcome.{Outcome, given}
 use Rattle.exponents.specs.declared.Exponent.{Exponent}
 use Rattle.exponents.proofs.Holds.{take-out, holds-any}
-use Rattle.exponents.proofs.Numbers.{number-pos, Refuses}
+use Rattle.exponents.proofs.Numbers.{Refuses, struct-answers, struct-refuses}
 use Rattle.units.specs.declared.Factor.{Factor}
 use Rattle.tables.specs.declared.rows.Exps.{Exps}
 use Rattle.tables.specs.Lists.{baseAt, base}
@@ -22,12 +21,12 @@ pub record Answered (o : Outcome (List Exponent)) (x : Exps) : Type 0 where
   pub at : x .at ≡ packExps exps
 
 pub exps-given : (o : Outcome (List Exponent)) (x : Exps) → x ≡ expsOf o → x .refusal ≡ 0 → Answered o x
-exps-given (given es) x e h = record { exps = es; is = refl; at = ap (λ (x : Exps). x .at) e }
-exps-given (refused r) x e h = absurd (omega (arith, number-pos r, ap (λ (x : Exps). x .refusal) e))
+exps-given o x e h =
+    let a = struct-answers expsOf (λ (y : Exps). y .refusal) (λ es. refl) (λ r. refl) o x e h in
+    record { exps = a .answer; is = a .is; at = ap (λ (y : Exps). y .at) (e ∙ ap expsOf (a .is)) }
 
 pub exps-refused : (o : Outcome (List Exponent)) (x : Exps) → x ≡ expsOf o → (x .refusal ≡ 0 → ⊥) → Refuses o (x .refusal)
-exps-refused (given es) x e h = absurd (h (ap (λ (x : Exps). x .refusal) e))
-exps-refused (refused r) x e h = record { why = r; is = refl; numbered = sym (ap (λ (x : Exps). x .refusal) e) }
+exps-refused = struct-refuses expsOf (λ (y : Exps). y .refusal) (λ es. refl) (λ r. refl)
 
 -- there is one for each base row
 long-places : (p n : ℕ) → length (places p n) ≡ n

@@ -1,13 +1,14 @@
 -- Lists resolved, as the code does it: a part of the named factors made a packed list, and the names gathered from the table.
 use mathlib.Core.Path.{_≡_, refl, sym, _∙_, ap, ap₂}
-use mathlib.Core.List.{List, [], _∷_, _++_, map, append-assoc, map-append}
-use Prim.Native.Nat.{ℕ, suc, _+_, _-_, _<_, _≤_}
+use mathlib.Core.List.{List, [], _∷_, _++_, map, map-append}
+use Prim.Native.Nat.{ℕ, _+_, _-_, _<_, _≤_}
 use native.Mathlib.Omega.{arith}
 use native.Mathlib.Numerals.{add-one}
 use lib.ListN.{length, take, drop, set, getD, replicate, length-map, length-append, length-drop}
-use lib.Seq.{take-suc, length-take-le, drop-append-le, drop-length, set-at}
+use lib.Seq.{take-suc, length-take-le, drop-append-le, drop-length}
 use Rattle.units.specs.declared.Factor.{Factor}
-use Rattle.tables.specs.Items.{View, itemOf, noItem, packItems}
+use Rattle.units.proofs.Laws.{stored}
+use Rattle.tables.specs.Items.{View, itemOf, noItem, packItems, packed}
 use Rattle.resolution.specs.Resolve.{noItems}
 use Rattle.tables.specs.declared.Item.{Item}
 use Rattle.tables.specs.declared.Items.{Items}
@@ -29,21 +30,19 @@ module _ (l : List Factor) (s : ℕ) where
 -- ---- packed lists
 module _ (v : View) where
   pub pack-none : noItems ≡ packItems v []
-  unfolding packItems
+  unfolding packItems packed
   pack-none = refl
 
   pub push-items : (fs : List Factor) (f : Factor) (n : ℕ) → length fs ≡ n → n < 16 →
       _≡_ {A = Items} (record { at = set (packItems v fs .at) n (itemOf v f); len = n + 1 }) (packItems v (fs ++ (f ∷ [])))
   unfolding packItems
   push-items fs f n e h =
-      let tail : 16 - length fs ≡ suc (15 - length fs) = omega arith in
-      let left : 16 - length (fs ++ (f ∷ [])) ≡ 15 - length fs = simp length-append (omega arith) in
-      let rest = replicate (15 - length fs) noItem in
+      let done = map (itemOf v) fs in
       ap₂ (λ (l : List Item) (k : ℕ). record { at = l; len = k })
-      (ap (λ k. set (map (itemOf v) fs ++ replicate k noItem) n (itemOf v f)) tail
-      ∙ set-at (map (itemOf v) fs) noItem rest (itemOf v f) n (length-map fs (itemOf v) ∙ e)
-      ∙ sym (append-assoc (map (itemOf v) fs) (itemOf v f ∷ []) rest)
-      ∙ ap₂ (λ (l : List Item) (k : ℕ). l ++ replicate k noItem) (sym (map-append (itemOf v) fs (f ∷ []))) (sym left))
+      (ap (λ k. set (done ++ replicate (16 - k) noItem) n (itemOf v f)) (sym (length-map fs (itemOf v)))
+      ∙ stored done noItem (itemOf v f) n (length-map fs (itemOf v) ∙ e) h
+      ∙ ap (λ (l : List Item). l ++ replicate (16 - length l) noItem) (sym (map-append (itemOf v) fs (f ∷ [])))
+      ∙ ap (λ k. map (itemOf v) (fs ++ (f ∷ [])) ++ replicate (16 - k) noItem) (length-map (fs ++ (f ∷ [])) (itemOf v)))
       (sym (length-append fs (f ∷ []) ∙ ap (λ k. k + 1) e))
 
   -- one turn of the loop: o holds the factors from s to i

@@ -1,6 +1,6 @@
 -- Two lists resolved against an admitted table (01, "The refusals", "Canonical form"): what is answered, and how code counts what comes before a factor.
 use mathlib.Core.Path.{_≡_}
-use mathlib.Core.List.{List, _++_}
+use mathlib.Core.List.{List, [], _++_}
 use Prim.Native.Nat.{ℕ, _-_, _≤_, _<_, compare, Ordering}
 use lib.IntN.{ℤ, pos}
 use lib.ListN.{length, getD, replicate}
@@ -10,7 +10,7 @@ use Rattle.units.specs.Lists.{noFactor}
 use Rattle.tables.specs.Orders.{then, lists, pairs}
 use Rattle.tables.specs.Key.{key, entries}
 use Rattle.tables.specs.Rows.{Facts, nobody, knownOf, blankKnown}
-use Rattle.tables.specs.Items.{isLess, tally, noItem, viewOf, packItems}
+use Rattle.tables.specs.Items.{isLess, tally, viewOf, packItems, packed}
 use Rattle.tables.specs.declared.Known.{Known}
 use Rattle.tables.specs.declared.Item.{Item}
 use Rattle.tables.specs.declared.Items.{Items}
@@ -26,7 +26,7 @@ pub record Keyed (ks : List Facts) : Type 0 where
 -- ---- the answer
 
 abbrev pub noItems : Items
-noItems = record { at = replicate 16 noItem; len = 0 }
+noItems = packed []
 
 abbrev pub unresolved : ℕ → Resolved
 unresolved n = record { a = noItems; b = noItems; refusal = n }

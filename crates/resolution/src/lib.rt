@@ -10,7 +10,7 @@ ghost use Rattle.tables.specs.declared.Slot.{Slot as Slotᵛ};
 ghost use Rattle.tables.specs.Orders.{then};
 ghost use Rattle.tables.specs.Rows.{Facts, admitted, tableOf};
 ghost use Rattle.tables.specs.Items.{isLess, viewOf, packItems};
-ghost use Rattle.resolution.specs.Resolve.{noName, nameBy, nameOf, itemBy, countBy, noItems, unresolved, Keyed, resolvedOf};
+ghost use Rattle.resolution.specs.Resolve.{noName, nameBy, nameOf, itemBy, countBy, unresolved, Keyed, resolvedOf};
 use exponents::Exponent;
 use exponents::refusals::TABLE;
 use tables::Item;
@@ -132,22 +132,10 @@ fn item(s: Name, c: Count) -> Item
 
 // ---- a list
 
-pub fn no_items() -> Items
-    ensures { λ r. ⌜ r ≡ noItems ⌝ }
-{
-    let s = no_name();
-    let c = Count { place: 0, class: 0 };
-    let none = item(s, c);
-    Items {
-        at: [none; 16],
-        len: 0,
-    }
-}
-
 fn refused(refusal: u32) -> Resolved
     ensures { λ r. ⌜ r ≡ unresolved refusal ⌝ }
 {
-    let none = no_items();
+    let none = tables::no_items();
     Resolved {
         a: none,
         b: none,
@@ -160,7 +148,7 @@ fn items(names: [Name; 32], start: usize, end: usize, n: usize) -> Items
     requires { ⌜ (start ≤ end) × (end ≤ start + 16) × (end ≤ n) × (n ≤ 32) ⌝ }
     ensures { λ r. ⌜ ((ks : List Facts) (l : List Factorᵛ) → take n names ≡ map (nameOf ks) l → r ≡ packItems (viewOf ks l) (drop start (take end l))) ⌝ }
 {
-    let mut o = no_items();
+    let mut o = tables::no_items();
     let mut i = start;
     while i < end {
         let s = taken(names[i]);

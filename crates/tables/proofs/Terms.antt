@@ -1,11 +1,11 @@
 -- The base exponents of a definition, as the code works them out from the rows that it has gathered.
 use mathlib.Core.Path.{_≡_, refl, sym, ap, ap₂, _∙_}
 use mathlib.Core.Bool.{true, false}
-use mathlib.Core.List.{List, [], _∷_, _++_, map, append-assoc}
+use mathlib.Core.List.{List, [], _∷_, _++_, map}
 use Prim.Native.Nat.{ℕ, zero, suc, _+_, _-_, _≤_, _<_}
 use native.Mathlib.Omega.{arith}
-use lib.ListN.{length, take, drop, getD, set, replicate, length-map, length-append}
-use lib.Seq.{getD-take, length-take-le, set-at}
+use lib.ListN.{length, take, drop, getD, set, replicate, length-map}
+use lib.Seq.{getD-take, length-take-le}
 use Rattle.exponents.specs.Outcome.{Outcome, given, bind}
 use Rattle.exponents.specs.Fractions.{nought, add?, mul?, sum?, same, faulty, fractionOf}
 use Rattle.exponents.specs.declared.Exponent.{Exponent}
@@ -23,7 +23,7 @@ use Rattle.units.specs.declared.Prefix.the-variants.{Metric}
 use Rattle.units.specs.declared.Kind.the-variants.{Base}
 use Rattle.units.specs.declared.Row.{Row}
 use Rattle.units.specs.Lists.{some, factorFault}
-use Rattle.units.proofs.Laws.{none-at}
+use Rattle.units.proofs.Laws.{none-at, stored}
 use Rattle.units.proofs.Sound.{exponent-sound}
 use Rattle.tables.specs.declared.Known.{Known}
 use Rattle.tables.specs.Lists.{baseAt, base}
@@ -64,13 +64,7 @@ padded (suc k) (e ∷ es) (suc s) x h = ap (λ n. getD (es ++ replicate n nought
 -- a base exponent more, stored behind the others
 pub push-exps : (es : List Exponent) (e : Exponent) (s : ℕ) → length es ≡ s → s < 16 → set (packExps es) s e ≡ packExps (es ++ (e ∷ []))
 unfolding packExps
-push-exps es e s n h =
-    let tail : 16 - length es ≡ suc (15 - length es) = omega arith in
-    let left : 16 - length (es ++ (e ∷ [])) ≡ 15 - length es = simp length-append (omega arith) in
-    ap (λ k. set (es ++ replicate k nought) s e) tail
-    ∙ set-at es nought (replicate (15 - length es) nought) e s n
-    ∙ sym (append-assoc es (e ∷ []) (replicate (15 - length es) nought))
-    ∙ ap (λ k. (es ++ (e ∷ [])) ++ replicate k nought) (sym left)
+push-exps es e s n h = stored es nought e s n h
 
 -- ---- the rows that are gathered
 pub get-map : {A B : Type 0} (f : A → B) (l : List A) (i : ℕ) (a : A) (b : B) → i < length l → getD (map f l) i b ≡ f (getD l i a)

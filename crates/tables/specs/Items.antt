@@ -77,3 +77,7 @@ noItem = record { exps = replicate 16 nought; factor = noFactor; scale = one; pl
 
 unfoldable pub packItems : View → List Factor → Items
 packItems v l = record { at = map (itemOf v) l ++ replicate (16 - length l) noItem; len = length l }
+
+-- the value of a list of items, its places past the end clean
+unfoldable pub packed : List Item → Items
+packed is = record { at = is ++ replicate (16 - length is) noItem; len = length is }

@@ -1,5 +1,8 @@
 // Tables: admission of rows, and lists resolved against an admitted table (01, "Records and sizes", "The refusals").
-// `admission`: `admit`.
+// `admission`: `admit`. `no_items`: the empty resolved list.
+ghost use mathlib.Core.Path.{_≡_};
+ghost use mathlib.Core.List.{[]};
+ghost use Rattle.tables.specs.Items.{packed};
 use exponents::Exponent;
 use units::Factor;
 
@@ -53,4 +56,24 @@ pub struct Item {
 pub struct Items {
     pub at: [Item; 16],
     pub len: usize,
+}
+
+// The empty list.
+pub fn no_items() -> Items
+    ensures { λ r. ⌜ r ≡ packed [] ⌝ }
+{
+    let f = units::lists::no_factor();
+    let e = Exponent { num: 0, den: 1 };
+    let none = Item {
+        exps: [e; 16],
+        factor: f,
+        scale: 1.0,
+        place: 0,
+        class: 0,
+        base: false,
+    };
+    Items {
+        at: [none; 16],
+        len: 0,
+    }
 }

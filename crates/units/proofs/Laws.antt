@@ -1,16 +1,16 @@
 -- Laws of packed lists, and one turn of each loop over a list. Over the element, the fault or the step.
-use mathlib.Core.Path.{_≡_, refl, sym, ap, _∙_}
+use mathlib.Core.Path.{_≡_, refl, sym, ap, ap₂, _∙_}
 use mathlib.Core.Bool.{Bool, true, false, _||_}
 use mathlib.Core.List.{List, [], _∷_, _++_, map, map-append, append-assoc}
 use Prim.Native.Nat.{ℕ, zero, suc, _+_, _-_, _≤_, _<_}
 use native.Mathlib.Omega.{arith}
 use native.Mathlib.Numerals.{add-one}
-use lib.ListN.{length, take, drop, getD, set, length-map, length-append, drop-of-length-le}
-use lib.Seq.{take-suc, take-append-seam, set-append-seam, length-take-le, drop-cons, getD-take}
+use lib.ListN.{length, take, drop, getD, set, replicate, length-map, length-append, drop-of-length-le}
+use lib.Seq.{set-at, take-suc, take-append-seam, length-take-le, drop-cons, getD-take}
 use Rattle.exponents.proofs.InRange.{or-left, or-right}
 use Rattle.units.specs.declared.Factor.{Factor}
 use Rattle.units.specs.declared.Factors.{Factors}
-use Rattle.units.specs.Lists.{pack, listOf, some}
+use Rattle.units.specs.Lists.{noFactor, pack, listOf, some}
 
 -- ---- packed lists
 
@@ -22,14 +22,20 @@ pub len-pack : (fs : List Factor) → pack fs .len ≡ length fs
 unfolding pack
 len-pack fs = refl
 
--- one more factor, stored at the end
+-- one more element, stored behind those of l in an array that is clean from there on
+pub stored : {A : Type 0} (l : List A) (z y : A) (k : ℕ) → length l ≡ k → k < 16 → set (l ++ replicate (16 - length l) z) k y ≡ (l ++ (y ∷ [])) ++ replicate (16 - length (l ++ (y ∷ []))) z
+stored l z y k n h =
+    let tail : 16 - length l ≡ suc (15 - length l) = omega arith in
+    let left : 16 - length (l ++ (y ∷ [])) ≡ 15 - length l = simp length-append (omega arith) in
+    ap (λ m. set (l ++ replicate m z) k y) tail
+    ∙ set-at l z (replicate (15 - length l) z) y k n
+    ∙ sym (append-assoc l (y ∷ []) (replicate (15 - length l) z))
+    ∙ ap (λ m. (l ++ (y ∷ [])) ++ replicate m z) (sym left)
+
 pub push-pack : (fs : List Factor) (f : Factor) → length fs < 16
     → _≡_ {A = Factors} (record { at = set (pack fs .at) (length fs) f; len = length fs + 1 }) (pack (fs ++ (f ∷ [])))
 unfolding pack
-push-pack fs f h =
-    let e : 16 - length fs ≡ suc (15 - length fs) = omega arith in
-    let e2 : 16 - (length fs + 1) ≡ 15 - length fs = omega arith in
-    simp (e, set-append-seam, length-append, e2, append-assoc)
+push-pack fs f h = ap₂ (λ (l : List Factor) (k : ℕ). record { at = l; len = k }) (stored fs noFactor f (length fs) refl h) (sym (length-append fs (f ∷ [])))
 
 -- an array field has its 16 elements: owning the struct tells it of the mapped list
 pub full : {B : Type 0} (f : Factor → B) (l : Factors) → length (map f (l .at)) ≡ 16 → length (l .at) ≡ 16

@@ -238,7 +238,7 @@ fn power_of(e: Exponent, f: Factor) -> Raised
 }
 
 // Each exponent of a list multiplied; the first refusal is the answer.
-fn each_power(e: Exponent, l: Factors) -> Made
+pub fn each_power(e: Exponent, l: Factors) -> Made
     requires { ⌜ l .len ≤ 16 ⌝ }
     ensures { λ r. ⌜ r ≡ madeOf (each (spec.raised e) (listOf l)) ⌝ }
 {

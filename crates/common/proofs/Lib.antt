@@ -1,0 +1,4 @@
+pub mod Shaped
+pub mod Merging
+pub mod Sharing
+pub mod Lessening

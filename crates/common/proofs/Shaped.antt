@@ -1,0 +1,162 @@
+-- What is made of lists whose factors keep their rule keeps it: canonical forms, common factors, what is left over those. And none is longer than its list.
+use mathlib.Core.Path.{_≡_, refl, ap₂, subst}
+use mathlib.Core.Bool.{Bool, true, false, _&&_, _||_}
+use mathlib.Core.List.{List, [], _∷_, _++_, map}
+use Prim.Native.Nat.{ℕ, suc, _≤_, Ordering, Ordering·lt, Ordering·eq, Ordering·gt}
+use native.Mathlib.Omega.{arith}
+use lib.ListN.{length}
+use Rattle.exponents.specs.Outcome.{Outcome}
+use Rattle.exponents.specs.Fractions.{nought, neg, less, faulty, same, add?}
+use Rattle.exponents.specs.declared.Exponent.{Exponent}
+use Rattle.exponents.proofs.Holds.{Holds, held, holds-imp, holds-map, holds-bind}
+use Rattle.exponents.proofs.Exact.{neg-low}
+use Rattle.exponents.proofs.InRange.{or-left, or-right, sound, neg-in-range, keeps-rule}
+use Rattle.exponents.proofs.Sound.{add-sound}
+use Rattle.units.specs.declared.Factor.{Factor}
+use Rattle.units.specs.Prefixes.{prefixFault}
+use Rattle.units.specs.Lists.{some, factorFault, withExponent, inverted}
+use Rattle.units.proofs.Sound.{exponent-sound}
+use Rattle.tables.specs.Rows.{pick}
+use Rattle.tables.proofs.Places.{All}
+use Rattle.canonical.specs.Order.{Atom, atom, of}
+use Rattle.canonical.specs.Canonical.{unless, canon}
+use Rattle.canonical.proofs.Keeping.{unless-keeps, canon-keeps}
+use Rattle.common.specs.declared.Shared.{Shared}
+use Rattle.common.specs.declared.Shared.the-variants.{Takes, Nothing}
+use Rattle.common.specs.Common.{meet, ifSame, withShared, sharedWith, common}
+use Rattle.common.specs.Lessened.{taken, lessen}
+
+abbrev Kept : Factor → Type 0
+Kept f = factorFault f ≡ false
+
+all-kept : (l : List Factor) → some factorFault l ≡ false → All Kept l
+unfolding some
+all-kept [] h = tt
+all-kept (f ∷ l) h = (or-left (factorFault f) (some factorFault l) h, all-kept l (or-right (factorFault f) (some factorFault l) h))
+
+kept-all : (l : List Factor) → All Kept l → some factorFault l ≡ false
+unfolding some
+kept-all [] h = refl
+kept-all (f ∷ l) h = ap₂ _||_ (h .0) (kept-all l (h .1))
+
+-- a factor with another exponent
+kept-with : (f : Factor) (e : Exponent) → Kept f → faulty e ≡ false → Kept (of (atom f) e)
+unfolding factorFault
+kept-with f e h k = ap₂ _||_ (or-left (prefixFault (f .prefix)) (faulty (f .exponent)) h) k
+
+-- ---- what two factors share is one of their exponents
+abbrev Fine : Shared → Type 0
+Fine (Takes e) = faulty e ≡ false
+Fine Nothing = Unit {0}
+
+pick-fine : (t : Bool) (a b : Shared) → Fine a → Fine b → Fine (pick t a b)
+pick-fine true a b p q = p
+pick-fine false a b p q = q
+
+meet-fine : (x y : Exponent) → faulty x ≡ false → faulty y ≡ false → Fine (meet x y)
+unfolding meet
+meet-fine x y p q =
+    pick-fine (less nought x && less nought y) _ _ (pick-fine (less x y) (Takes x) (Takes y) p q)
+    (pick-fine (less x nought && less y nought) _ _ (pick-fine (less x y) (Takes y) (Takes x) q p) tt)
+
+if-fine : (o : Ordering) (a b : Shared) → Fine a → Fine b → Fine (ifSame o a b)
+unfolding ifSame
+if-fine Ordering·lt a b p q = q
+if-fine Ordering·eq a b p q = p
+if-fine Ordering·gt a b p q = q
+
+with-kept : (s : Shared) (f : Factor) (l : List Factor) → Fine s → Kept f → All Kept l → All Kept (withShared s f l)
+unfolding withShared
+with-kept (Takes e) f l p h k = (kept-with f e h p, k)
+with-kept Nothing f l p h k = k
+
+with-short : (s : Shared) (f : Factor) (l : List Factor) (n : ℕ) → length l ≤ n → length (withShared s f l) ≤ suc n
+unfolding withShared
+with-short (Takes e) f l n h = omega arith
+with-short Nothing f l n h = omega arith
+
+-- ---- inverted
+inverted-keeps : (f : Factor) → Kept f → Kept (inverted f)
+unfolding inverted withExponent
+inverted-keeps f h = let s = sound (f .exponent) (exponent-sound f h) in kept-with f (neg (f .exponent)) h (keeps-rule (neg (f .exponent)) (neg-in-range (f .exponent) (s .0)) (neg-low (s .1)))
+
+inverted-all : (l : List Factor) → All Kept l → All Kept (map inverted l)
+inverted-all [] h = tt
+inverted-all (f ∷ l) h = (inverted-keeps f (h .0), inverted-all l (h .1))
+
+pub inverted-kept : (l : List Factor) → some factorFault l ≡ false → some factorFault (map inverted l) ≡ false
+inverted-kept l h = kept-all (map inverted l) (inverted-all l (all-kept l h))
+
+-- ---- lists joined
+join-all : (l m : List Factor) → All Kept l → All Kept m → All Kept (l ++ m)
+join-all [] m h k = k
+join-all (f ∷ l) m h k = (h .0, join-all l m (h .1) k)
+
+pub join-kept : (l m : List Factor) → some factorFault l ≡ false → some factorFault m ≡ false → some factorFault (l ++ m) ≡ false
+join-kept l m h k = kept-all (l ++ m) (join-all l m (all-kept l h) (all-kept m k))
+
+-- ---- merged
+merged-kept : (x y : Factor) → Kept x → Kept y → Holds (λ e. Kept (of (atom y) e)) (add? (y .exponent) (x .exponent))
+merged-kept x y p q = holds-imp (add-sound (y .exponent) (x .exponent)) λ e s. kept-with y e q s
+
+-- `cmp` is the order of factors
+module _ (cmp : Atom → Atom → Ordering) where
+  -- ---- canonical forms
+  pub canon-kept : (l : List Factor) → some factorFault l ≡ false → Holds (λ c. some factorFault c ≡ false) (canon cmp l)
+  canon-kept l h = holds-imp (canon-keeps Kept merged-kept cmp l (all-kept l h)) kept-all
+
+  -- ---- common factors
+  shared-fine : (f : Factor) (m : List Factor) → faulty (f .exponent) ≡ false → All Kept m → Fine (sharedWith cmp f m)
+  unfolding sharedWith
+  shared-fine f [] p h = tt
+  shared-fine f (g ∷ m) p h = if-fine _ _ _ (meet-fine (f .exponent) (g .exponent) p (exponent-sound g (h .0))) (shared-fine f m p (h .1))
+
+  pub taken-sound : (f : Factor) (m : List Factor) (e : Exponent) → faulty (f .exponent) ≡ false → some factorFault m ≡ false → sharedWith cmp f m ≡ Takes e → faulty e ≡ false
+  taken-sound f m e p h t = subst Fine t (shared-fine f m p (all-kept m h))
+
+  common-all : (l m : List Factor) → All Kept l → All Kept m → All Kept (common cmp l m)
+  unfolding common
+  common-all [] m h k = tt
+  common-all (f ∷ l) m h k = with-kept _ f (common cmp l m) (shared-fine f m (exponent-sound f (h .0)) k) (h .0) (common-all l m (h .1) k)
+
+  pub common-kept : (l m : List Factor) → some factorFault l ≡ false → some factorFault m ≡ false → some factorFault (common cmp l m) ≡ false
+  common-kept l m h k = kept-all (common cmp l m) (common-all l m (all-kept l h) (all-kept m k))
+
+  pub common-short : (l m : List Factor) → length (common cmp l m) ≤ length l
+  unfolding common
+  common-short [] m = omega arith
+  common-short (f ∷ l) m = with-short _ f (common cmp l m) (length l) (common-short l m)
+
+  -- ---- a list over them: what holds of the factors and of those with a sum for exponent
+  taken-holds : (P : List Factor → Type 0) (o : Ordering) (g c : Factor) (merged : Exponent → Outcome (List Factor)) (rest : Outcome (List Factor)) →
+      ((e : Exponent) → faulty e ≡ false → Holds P (merged e)) → Holds (λ r. P (g ∷ r)) rest → Holds P (taken o g c merged rest)
+  unfolding taken
+  taken-holds P Ordering·lt g c merged rest h k = holds-map _ k λ r p. p
+  taken-holds P Ordering·eq g c merged rest h k = holds-bind _ (add-sound (g .exponent) (c .exponent)) h
+  taken-holds P Ordering·gt g c merged rest h k = holds-map _ k λ r p. p
+
+  lessen-all : (l cs : List Factor) → All Kept l → Holds (All Kept) (lessen cmp l cs)
+  unfolding lessen
+  lessen-all [] cs h = held {a = []} tt
+  lessen-all (g ∷ m) [] h = held {a = g ∷ m} h
+  lessen-all (g ∷ m) (c ∷ cs) h =
+      taken-holds (All Kept) _ g c _ _
+      (λ e s. holds-map _ (lessen-all m cs (h .1)) λ r k. unless-keeps Kept (same e nought) (of (atom g) e) r (kept-with g e (h .0) s) k)
+      (holds-imp (lessen-all m (c ∷ cs) (h .1)) λ r k. (h .0, k))
+
+  pub lessen-kept : (l cs : List Factor) → some factorFault l ≡ false → Holds (λ r. some factorFault r ≡ false) (lessen cmp l cs)
+  lessen-kept l cs h = holds-imp (lessen-all l cs (all-kept l h)) kept-all
+
+  unless-short : (t : Bool) (f : Factor) (l : List Factor) (n : ℕ) → length l ≤ n → length (unless t f l) ≤ suc n
+  unfolding unless
+  unless-short true f l n h = omega arith
+  unless-short false f l n h = omega arith
+
+  pub lessen-short : (l cs : List Factor) → Holds (λ r. length r ≤ length l) (lessen cmp l cs)
+  unfolding lessen
+  lessen-short [] cs = held {a = []} (omega arith)
+  lessen-short (g ∷ m) [] = held {a = g ∷ m} (omega arith)
+  lessen-short (g ∷ m) (c ∷ cs) =
+      taken-holds (λ r. length r ≤ suc (length m)) _ g c _ _
+      (λ e s. holds-map _ (lessen-short m cs) λ r k. unless-short (same e nought) (of (atom g) e) r (length m) k)
+      (holds-imp (lessen-short m (c ∷ cs)) λ r k. omega arith)

@@ -1,0 +1,7 @@
+pub mod Converting
+pub mod Agreeing
+pub mod Refusals
+pub mod Cases
+pub mod Reduction
+pub mod Faithful
+pub mod Demand

@@ -1,0 +1,104 @@
+-- Which refusals the steps of a conversion have: a canonical form and base exponents only RANGE, a scale only FRACTION, and that exactly where it is fractional.
+use mathlib.Core.Path.{_≡_}
+use mathlib.Core.Bool.{Bool, true, false, _||_, _&&_, not}
+use mathlib.Core.List.{List, [], _∷_}
+use Prim.Native.Nat.{ℕ, Ordering, Ordering·lt, Ordering·eq, Ordering·gt}
+use native.Mathlib.Omega.{arith}
+use lib.Dec.{eqb}
+use Rattle.exponents.specs.Outcome.{Refusal, RANGE, UNITS, FRACTION, Outcome, given, refused, map, bind, each}
+use Rattle.exponents.specs.Fractions.{nought, sum?}
+use Rattle.exponents.specs.declared.Exponent.{Exponent}
+use Rattle.exponents.proofs.Holds.{Only, fine, only, only-map, only-bind}
+use Rattle.exponents.proofs.InRange.{ranged-only}
+use Rattle.units.specs.declared.Factor.{Factor}
+use Rattle.tables.specs.Lists.{baseAt, base}
+use Rattle.tables.specs.Scale.{Numbers, raise, raisedTo, scaleFrom}
+use Rattle.canonical.specs.Order.{Atom}
+use Rattle.canonical.specs.Canonical.{place, insert, gather, canon}
+use Rattle.conversion.specs.Conversion.{rescaled}
+use Rattle.conversion.specs.Fractional.{fractional}
+
+-- ---- an answer is no refusal, and RANGE, UNITS and FRACTION are three
+pub given-not-refused : {A : Type 0} {a : A} {r : Refusal} → given a ≡ refused r → ⊥
+given-not-refused e = let z : _≡_ {A = ℕ} 0 1 = cc in omega arith
+
+pub range-not-units : RANGE ≡ UNITS → ⊥
+range-not-units e = let z : _≡_ {A = ℕ} 0 1 = cc in omega arith
+
+pub range-not-fraction : RANGE ≡ FRACTION → ⊥
+range-not-fraction e = let z : _≡_ {A = ℕ} 0 1 = cc in omega arith
+
+pub units-not-fraction : UNITS ≡ FRACTION → ⊥
+units-not-fraction e = let z : _≡_ {A = ℕ} 0 1 = cc in omega arith
+
+-- ---- the ranged steps: if S holds of RANGE, they refuse only with what S holds of
+module _ (S : Refusal → Type 0) (range : S RANGE) where
+  sum-only : {A : Type 0} (term : A → Outcome Exponent) → ((a : A) → Only S (term a)) → (s : Exponent) (l : List A) → Only S (sum? term s l)
+  unfolding sum?
+  sum-only term h s [] = fine
+  sum-only term h s (a ∷ l) = only-bind _ _ (h a) λ t _. only-bind _ _ (ranged-only S range _) λ u _. sum-only term h u l
+
+  each-only : {A B : Type 0} (f : A → Outcome B) → ((a : A) → Only S (f a)) → (l : List A) → Only S (each f l)
+  unfolding each
+  each-only f h [] = fine
+  each-only f h (a ∷ l) = only-bind _ _ (h a) λ b _. only-map _ (each-only f h l)
+
+  pub base-only : (bs : List (ℕ → Exponent)) (l : List Factor) → Only S (base bs l)
+  unfolding base baseAt
+  base-only bs l = each-only (baseAt l) (λ b. sum-only _ (λ f. ranged-only S range _) nought l) bs
+
+  module _ (cmp : Atom → Atom → Ordering) where
+    place-only : (o : Ordering) (x y : Factor) (ys : List Factor) (r : Outcome (List Factor)) → Only S r → Only S (place o x y ys r)
+    unfolding place
+    place-only Ordering·lt x y ys r h = fine
+    place-only Ordering·eq x y ys r h = only-map _ (ranged-only S range _)
+    place-only Ordering·gt x y ys r h = only-map _ h
+
+    insert-only : (x : Factor) (l : List Factor) → Only S (insert cmp x l)
+    unfolding insert
+    insert-only x [] = fine
+    insert-only x (y ∷ ys) = place-only _ x y ys _ (insert-only x ys)
+
+    gather-only : (a l : List Factor) → Only S (gather cmp a l)
+    unfolding gather
+    gather-only a [] = fine
+    gather-only a (x ∷ l) = only-bind _ _ (insert-only x a) λ b _. gather-only b l
+
+    pub canon-only : (l : List Factor) → Only S (canon cmp l)
+    unfolding canon
+    canon-only l = only-map _ (gather-only [] l)
+
+-- ---- a scale
+
+-- refused by FRACTION, or worked out
+pub data Fraction {R : Type 0} : Bool → Outcome R → Type 0 where
+  fraction : Fraction true (refused FRACTION)
+  worked : {p : R} → Fraction false (given p)
+
+pub fraction-only : {R : Type 0} (S : Refusal → Type 0) → S FRACTION → {t : Bool} {o : Outcome R} → Fraction t o → Only S o
+fraction-only S h fraction = only h
+fraction-only S h worked = fine
+
+module _ {R : Type 0} (N : Numbers R) (size : Factor → R) where
+  raise-is : (w o : Bool) (p u : R) (k : R → Outcome R) (t : Bool) → ((q : R) → Fraction t (k q)) → Fraction ((not w && not o) || t) (bind (raise w o p u) k)
+  unfolding raise bind
+  raise-is true o p u k t h = h p
+  raise-is false true p u k t h = h u
+  raise-is false false p u k t h = fraction
+
+  -- FRACTION exactly where a size other than 1 meets an exponent that isn't whole
+  pub scale-is : (s : R) (l : List Factor) → Fraction (fractional N size l) (scaleFrom N size s l)
+  unfolding scaleFrom raisedTo fractional
+  scale-is s [] = worked
+  scale-is s (f ∷ l) = raise-is (eqb (f .exponent .den) 1) (N .isOne (size f)) _ _ _ (fractional N size l) λ q. scale-is (N .times s q) l
+
+  both-is : (a b : Bool) (o p : Outcome R) (f : R → R → R) → Fraction a o → Fraction b p → Fraction (a || b) (bind o (λ s. map (f s) p))
+  unfolding bind
+  both-is true b o p f fraction k = fraction
+  both-is false true o p f worked fraction = fraction
+  both-is false false o p f worked worked = worked
+
+  -- the quotient of two scales: FRACTION exactly where one of them is
+  pub rescaled-is : (own target : List Factor) (v : R) → Fraction (fractional N size own || fractional N size target) (rescaled N size own target v)
+  unfolding rescaled
+  rescaled-is own target v = both-is _ _ _ _ (λ s t. N .divide (N .times v s) t) (scale-is (N .one) own) (scale-is (N .one) target)
