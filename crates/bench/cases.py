@@ -16,6 +16,7 @@ def q(value, unit, mark="m"):
 GRAM, METRE, SECOND, BIT, MINUTE, HOUR, BYTE, NEWTON = (f"0{row}." for row in range(8))
 KIBIBYTE, BINARY_METRE, PREFIX_1100, PREFIX_1101 = "06K", "01B", "01P", "01Q"
 ROOT_NEWTON, ROOT_BASE, BASE, CUBIC_METRE, SCALAR = "07h", "00s", "00g", "01t", "00_"
+TENTHS, PER_HOUR, KILO_PER_HOUR = "01D", "01v", "01V"
 ROW_127, ROW_128 = "7f.", "80."
 NONE = q(0.0, SCALAR, "u")
 TABLE, SHAPE, UNKNOWN, ROOM, RANGE, UNITS, FRACTION, DIVZERO, ZERONEG, NONWHOLE, NAN_REFUSED = "123456789ab"
@@ -61,6 +62,9 @@ UNSTARRED = [
     ("A 129th row", "M", q(5, METRE), NONE, TABLE),
 ]
 OTHERS = [
+    ("1 decimetre decimetre decimetre^-1 to metre", "c", q(1, TENTHS), to(METRE), q(0.1 * 0.1 * (1 / 0.1), METRE)),
+    ("3 kilometre/hour to metre/hour", "c", q(3, KILO_PER_HOUR), to(PER_HOUR), q(3 * (1000 * (1 / 3600) * 3600), PER_HOUR)),
+    ("3 metre/hour to kilometre/hour", "c", q(3, PER_HOUR), to(KILO_PER_HOUR), q(3 * (1 / 3600 * 3600) / 1000, KILO_PER_HOUR)),
     ("30 minute + 1 hour", "+", q(30, MINUTE), q(1, HOUR), q(90, MINUTE)),
     ("1 hour - 30 minute", "-", q(1, HOUR), q(30, MINUTE), q(30, MINUTE)),
     ("5 metre + 5 second", "+", q(5, METRE), q(5, SECOND), UNITS),

@@ -151,6 +151,8 @@ fn prefix_of(how: u8) -> Prefix {
         b'K' => Prefix::Binary(10),
         b'P' => Prefix::Metric(1100),
         b'Q' => Prefix::Metric(1101),
+        b'D' => Prefix::Metric(-1),
+        b'V' => Prefix::Metric(3),
         _ => Prefix::Metric(0),
     }
 }
@@ -167,6 +169,22 @@ fn one(f: Factor) -> Factors {
     let mut l = units::lists::empty();
     l.at[0] = f;
     l.len = 1;
+    l
+}
+
+// A factor twice, and once below.
+fn again(f: Factor, g: Factor) -> Factors {
+    let mut l = one(f);
+    l.at[1] = f;
+    l.at[2] = g;
+    l.len = 3;
+    l
+}
+
+fn per_hour(f: Factor) -> Factors {
+    let mut l = one(f);
+    l.at[1] = plain(5, -1, 1);
+    l.len = 2;
     l
 }
 
@@ -193,6 +211,11 @@ fn list(n: u32, how: u8) -> Factors {
         b'*' => metres(n),
         b'g' => three(1, -2),
         b's' => three(2, -1),
+        b'D' => again(
+            factor(n, prefix_of(how), Exponent { num: 1, den: 1 }),
+            factor(n, prefix_of(how), Exponent { num: -1, den: 1 }),
+        ),
+        b'V' | b'v' => per_hour(factor(n, prefix_of(how), exponent_of(how))),
         _ => one(factor(n, prefix_of(how), exponent_of(how))),
     }
 }
