@@ -1,0 +1,4 @@
+pub mod Back
+pub mod Parts
+pub mod Sent
+pub mod Told

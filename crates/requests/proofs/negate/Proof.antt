@@ -1,0 +1,39 @@
+-- `negate` meets its contract.
+use borrow.Author.Needs.{needs}
+use Rattle.values.specs.Calls as values
+use Rattle.requests.specs.Calls.{negate}
+use Rattle.requests.proofs.Calling.{with-two}
+use Rattle.requests.proofs.negate.Statement.{statement}
+use Rattle.requests.proofs.negate.Tie as tie
+
+table-requires : tie.Need-table-requires
+table-requires c κs = search needs
+
+quantity-requires : tie.Need-quantity-requires
+quantity-requires c κs = search needs
+
+negate-requires : tie.Need-negate-requires
+negate-requires c κs = search needs
+
+quantity-requires-2 : tie.Need-quantity-requires-2
+quantity-requires-2 c κs = search needs
+
+same-length : tie.Need-same-length
+same-length c = search needs
+
+returns : tie.Need-returns
+unfolding negate
+returns c =
+    let k = c .before .before .before .before in
+    with-two (c .before .before .quantity2 .ensures) values.negate (k .negate .ensures) (k .before .before .table .ensures) (k .before .quantity .ensures)
+
+pub negate-spec : {M : Type 1} → statement M
+negate-spec =
+    tie.close
+    (tie.spec
+    table-requires
+    quantity-requires
+    negate-requires
+    quantity-requires-2
+    same-length
+    returns)

@@ -1,0 +1,9 @@
+pub mod Digits
+pub mod Runs
+pub mod Stored
+pub mod Form
+pub mod Round
+pub mod Back
+pub mod Held
+pub mod Unread
+pub mod Faults
