@@ -1,10 +1,16 @@
-# The steps of `run`, sourced with $here, $build, $published and $streams set.
+# The steps of `run`, sourced with $here, $root, $build, $published and $streams set.
+
+# The codes that `calls` answers; every other is an unknown one to it.
+standing=$(seq -s, 1 20),23
+
+# The stored records stand beside the program that answers them again.
+records=$root/crates/replay/data
 
 # Checks the published files, and builds anew if one of them or a source is newer than the programs.
 build() {
     local newest=$build/bin/store
     (cd "$published" && sha256sum --check --quiet "$here/published.sha256")
-    if [ ! -f "$newest" ] || [ -n "$(find "$here" "$published" -path "$here/build" -prune -o -path "$here/stored" -prune \
+    if [ ! -f "$newest" ] || [ -n "$(find "$here" "$published" -path "$here/build" -prune \
         -o \( -name '*.rs' -o -name '*.sh' -o -name '*.py' -o -name '*.sha256' \) -newer "$newest" -print -quit)" ]; then
         bash "$here/build.sh" "$build" "$published" on
     fi
@@ -80,7 +86,7 @@ wrong() {
     local name folder generated stored
     program generate 1 60000 >"$streams/requests"
     program oracle <"$streams/requests" >"$streams/rust"
-    program store split "$streams/stored-requests" "$streams/stored" "$here"/stored/call-*.bin
+    program store split "$streams/stored-requests" "$streams/stored" "$records"/call-*.bin
     echo '| wrong reading | of 60,000 generated | of the stored list |'
     echo '|---|---|---|'
     for name in $(python3 "$here/wrong.py" list); do
@@ -120,13 +126,167 @@ store() {
         program oracle <"$streams/requests" >"$streams/rust"
         limit=240000
         [ "$code" != 1 ] || limit=64000
-        program store pick "$streams/requests" "$streams/rust" "$here/stored/call-$(printf %02d "$code").bin" "$code" $limit
+        program store pick "$streams/requests" "$streams/rust" "$records/call-$(printf %02d "$code").bin" "$code" $limit
     done
+    python3 "$root/crates/replay/make.py"
 }
 
 replay() {
-    program store split "$streams/requests" "$streams/stored" "$here"/stored/call-*.bin
+    program store split "$streams/requests" "$streams/stored" "$records"/call-*.bin
     program oracle <"$streams/requests" >"$streams/rust"
     echo "the stored list answered again:"
     program compare "$streams/requests" "$streams/stored" "$streams/rust"
+}
+
+# Sets the array `calls`: the command of ORACLE_CALLS, or the project's own program, proved and built if a source is newer.
+# That is for x86-64 and the kit's own C library; on another processor the kit has an emulator.
+find_calls() {
+    local built=$root/target/bin/calls kit emulator
+    read -ra calls <<<"${ORACLE_CALLS:-}"
+    if [ ${#calls[@]} != 0 ]; then
+        command -v "${calls[0]}" >"$streams/told" || { echo "no program ${calls[0]}" >&2 && return 1; }
+        return
+    fi
+    if [ ! -f "$built" ] || [ -n "$(find "$root/crates" "$root/crates.txt" -newer "$built" -print -quit)" ]; then
+        (cd "$root" && rt check calls) >"$build/calls.log" 2>&1 || { tail -n 20 "$build/calls.log" >&2 && return 1; }
+    fi
+    kit=$(dirname "$(dirname "$(rt doc)")")/on/$(uname -m)/toolchain
+    emulator=$kit/bin/qemu-x86_64
+    [ ! -x "$emulator" ] || calls=("$emulator")
+    calls+=("$kit/lib/ld-linux-x86-64.so.2" --library-path "$kit/lib" "$built")
+}
+
+# timed NAME COMMAND ..: adds the nanoseconds to `spent`, and ends as the command does
+timed() {
+    local name=$1 from status=0
+    shift
+    from=$(date +%s%N)
+    "$@" || status=$?
+    spent[$name]=$((${spent[$name]:-0} + $(date +%s%N) - from))
+    return $status
+}
+
+# answered COUNT: `calls` answers the requests; how it ended, and at which request, is said unless it ended with 0
+answered() {
+    local status=0
+    timed calls timeout 900 "${calls[@]}" <"$streams/requests" >"$streams/calls" || status=$?
+    [ $status != 0 ] || return 0
+    echo "calls ended with status $status"
+    [ $status = 124 ] || bad_end "$1"
+    return 1
+}
+
+# Without the shell's own word on how it ended.
+ends_well() {
+    timeout 900 "${calls[@]}" <"$streams/part" >"$streams/answers"
+} 2>"$streams/told"
+
+# bad_end COUNT: the first request up to which the stream makes `calls` end badly, by halving
+bad_end() {
+    local low=0 high=$1 middle
+    while [ $((high - low)) -gt 1 ]; do
+        middle=$(((low + high) / 2))
+        program decode "$streams/requests" --count $middle --bytes >"$streams/part"
+        if ends_well; then low=$middle; else high=$middle; fi
+    done
+    echo "it does so from this on:"
+    program decode "$streams/requests" --from $low --count 1
+}
+
+# mixed SEED: 60,000 requests, some over few rows, some over up to 128, some with many faults
+mixed() {
+    program generate $(($1 * 4)) 25000 --calls "$standing"
+    program generate $(($1 * 4 + 1)) 15000 --calls "$standing" --rows 3 --faults 4
+    program generate $(($1 * 4 + 2)) 10000 --calls "$standing" --rows 128 --faults 4
+    program generate $(($1 * 4 + 3)) 10000 --calls "$standing" --faults 60
+}
+
+# Over seeds: `calls` against the Rust inside its domain, and against 01's reading everywhere.
+against() {
+    local seed name requests failed=0
+    local -A spent=()
+    [ $# -gt 0 ] || set -- 1 2 3 4 5 6
+    find_calls
+    for seed in "$@"; do
+        mixed "$seed" >"$streams/requests"
+        timed oracle program oracle <"$streams/requests" >"$streams/rust"
+        timed reading program oracle --reading <"$streams/requests" >"$streams/reading"
+        answered 60000 || failed=1
+        program compare "$streams"/{requests,rust,reading,calls} --add "$streams/counts" || failed=1
+    done
+    echo "calls against the Rust and 01's reading, seeds $*:"
+    program compare --table "$streams/counts" || failed=1
+    requests=$(($# * 60000))
+    for name in calls oracle reading; do
+        echo "$name: $((spent[$name] / 1000000)) ms, $((requests * 1000000000 / spent[$name])) requests a second"
+    done
+    return $failed
+}
+
+# Damaged and random requests against 01's reading, in pieces that are not kept; then streams that end badly.
+damaged() {
+    local count=${1:-1000000} left size seed=0 failed=0
+    local ways=(--wild --random '--wild --rows 3' '--random --rows 3 --faults 0' '--wild --rows 128' '--random --rows 128')
+    local -A spent=()
+    find_calls
+    for ((left = count; left > 0 && failed == 0; left -= 50000)); do
+        size=$((left < 50000 ? left : 50000))
+        # shellcheck disable=SC2086
+        program generate $((5000 + seed)) $size --calls "$standing" ${ways[seed % ${#ways[@]}]} >"$streams/requests"
+        program oracle --reading <"$streams/requests" >"$streams/reading"
+        answered $size || failed=1
+        program compare "$streams"/{requests,reading,calls} --add "$streams/counts" || failed=1
+        seed=$((seed + 1))
+    done
+    echo "calls against 01's reading, damaged and random requests, one answer for each:"
+    program compare --table "$streams/counts" || failed=1
+    endings $((count / 250 + 11))
+    return $failed
+}
+
+# endings COUNT: what comes before the bad place is answered, then comes the one number, and `calls` ends with 0; sets
+# `failed` if not
+endings() {
+    local folder=$streams/endings file name status
+    mkdir "$folder"
+    program generate 6000 400 --calls "$standing" --rows 4 >"$streams/requests"
+    python3 "$here/endings.py" make "$folder" "$streams/requests" "$standing" 1 "$1"
+    for file in "$folder"/*.requests; do
+        name=${file%.requests} status=0
+        program oracle --reading --standing "$standing" <"$file" >"$name.reading"
+        case ${file##*/} in
+        *7-*) python3 "$here/endings.py" feed "$file" | timeout 60 "${calls[@]}" >"$name.calls" || status=$? ;;
+        *) timeout 60 "${calls[@]}" <"$file" >"$name.calls" || status=$? ;;
+        esac
+        echo $status >"$name.status"
+    done
+    python3 "$here/endings.py" check "$folder" "$standing" || failed=1
+    for name in $(head -3 "$folder/failed"); do
+        echo "stream $name, what can be read of it:"
+        program decode "$folder/$name.requests" "$folder/$name.calls"
+    done
+}
+
+# The records at the limits, made anew with Python's answers; 01's reading, and the Rust inside its domain, answer alike.
+edges() {
+    local name failed=0
+    python3 "$here/edges.py" write "$records"
+    for name in limits admissions; do
+        program store split "$streams/requests" "$streams/stored" "$records/edges-$name.bin"
+        program oracle <"$streams/requests" >"$streams/rust"
+        program oracle --reading <"$streams/requests" >"$streams/reading"
+        echo "$name:"
+        program compare "$streams"/{requests,rust,reading,stored} || failed=1
+    done
+    python3 "$root/crates/replay/make.py"
+    return $failed
+}
+
+# What `calls` answers in the gate, and 01's answers: requests with many faults, the last one cut short.
+stream() {
+    local folder=$root/crates/calls
+    program generate 7000 160 --calls "$standing" --rows 3 --faults 30 >"$streams/requests"
+    head -c -100 "$streams/requests" >"$folder/stdin"
+    program oracle --reading --standing "$standing" <"$folder/stdin" >"$folder/stdout"
+    program compare "$folder/stdin" "$folder/stdout" "$folder/stdout"
 }

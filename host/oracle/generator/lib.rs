@@ -3,6 +3,7 @@
 // It asks the crate `scope` for base exponents and scales, so that most requests lie inside the equality domain.
 pub mod faults;
 pub mod lists;
+pub mod noise;
 pub mod random;
 pub mod realistic;
 pub mod requests;

@@ -1,103 +1,131 @@
-// Compares two streams of answers to one stream of requests: counts per call and outcome, first differences decoded.
+// Compares streams of answers to one stream of requests: counts per call and outcome, first differences decoded.
 //
-//   compare REQUESTS A B [--show N]
+//   compare REQUESTS A [A ..] B [--show N] [--add COUNTS]
+//   compare --table COUNTS
 //
-// A is the oracle's. Requests that either side calls outside the equality domain are counted and not compared.
-// Ends with 1 if an answer differs or a stream is shorter than the other.
-use std::collections::BTreeMap;
+// B is held against every A. A request that an A calls outside the equality domain is not compared with that A: with one A
+// it is counted as outside; with more the first is the Rust's, and the request is counted by B's answer and as outside it.
+// --add keeps the counts in a file, added to those it has, and prints differences only; --table prints such a file.
+// Ends with 1 if an answer differs or a stream is shorter than another.
+mod counts;
+
 use std::fs::File;
 use std::io::{self, BufReader, Read};
 use std::process::ExitCode;
 
+use counts::{Counts, DIFFERENT, UNJUDGED};
 use wire::stream::{Answer, Next, Request, read_answer, read_request};
-use wire::{calls, refusals, text};
+use wire::{refusals, text};
 
-/// How often each outcome was met, by code.
-type Counts = BTreeMap<u32, BTreeMap<String, u64>>;
+const USE: &str = "compare REQUESTS A [A ..] B [--show N] [--add COUNTS], or compare --table COUNTS";
 
-fn outcome(a: &Answer, b: &Answer) -> String {
-    for side in [a, b] {
-        if refusals::is_outside(side.number) {
-            return refusals::name(side.number);
-        }
-    }
-    if a == b { refusals::name(a.number) } else { "DIFFERENT".to_string() }
+struct Wanted {
+    files: Vec<String>,
+    show: u64,
+    add: Option<String>,
+    table: Option<String>,
 }
 
-fn show(at: u64, request: &Request, a: &Answer, b: &Answer) {
+fn wanted(mut arguments: impl Iterator<Item = String>) -> Option<Wanted> {
+    let mut wanted = Wanted { files: Vec::new(), show: 5, add: None, table: None };
+    while let Some(argument) = arguments.next() {
+        match argument.as_str() {
+            "--show" => wanted.show = arguments.next()?.parse().ok()?,
+            "--add" => wanted.add = Some(arguments.next()?),
+            "--table" => wanted.table = Some(arguments.next()?),
+            _ => wanted.files.push(argument),
+        }
+    }
+    (wanted.files.len() >= 3 || wanted.table.is_some()).then_some(wanted)
+}
+
+fn outcome(judges: &[Answer], b: &Answer) -> String {
+    let inside: Vec<&Answer> = judges.iter().filter(|a| !refusals::is_outside(a.number)).collect();
+    match inside.iter().all(|a| *a == b) {
+        _ if inside.is_empty() => refusals::name(judges[0].number),
+        true => refusals::name(b.number),
+        false => DIFFERENT.to_string(),
+    }
+}
+
+fn show(at: u64, request: &Request, judges: &[Answer], b: &Answer) {
     println!("difference at request {at}: {}", text::request(request));
-    println!("  A: {}", text::answer(request.code, a));
+    for a in judges {
+        println!("  A: {}", text::answer(request.code, a));
+    }
     println!("  B: {}", text::answer(request.code, b));
 }
 
-fn print_counts(counts: &Counts) {
-    for (code, outcomes) in counts {
-        let name = calls::of_code(*code).map_or("end", |call| call.name);
-        let parts: Vec<String> = outcomes.iter().map(|(outcome, n)| format!("{outcome} {n}")).collect();
-        println!("{code:>2} {name:<18} {}", parts.join(", "));
+/// One answer of each stream, or the place of the stream that has no further one.
+fn answers(streams: &mut [impl Read]) -> io::Result<Result<Vec<Answer>, usize>> {
+    let mut answers = Vec::new();
+    for (at, stream) in streams.iter_mut().enumerate() {
+        let Next::One(answer) = read_answer(stream)? else { return Ok(Err(at)) };
+        answers.push(answer);
     }
+    Ok(Ok(answers))
 }
 
-fn print_total(counts: &Counts) -> u64 {
-    let mut total: BTreeMap<&str, u64> = BTreeMap::new();
-    for (outcome, n) in counts.values().flatten() {
-        let kind = match outcome.as_str() {
-            "answered" => "answered alike",
-            "DIFFERENT" => "different",
-            other if other.starts_with("outside") => "outside, not compared",
-            _ => "refused alike",
-        };
-        *total.entry(kind).or_default() += n;
-    }
-    let parts: Vec<String> = total.iter().map(|(kind, n)| format!("{kind} {n}")).collect();
-    println!("of {} requests: {}", total.values().sum::<u64>(), parts.join(", "));
-    total.get("different").copied().unwrap_or(0)
-}
-
-/// After the last request both streams end, or both say that the requests cannot be read on.
-fn ends_alike(first: &mut impl Read, second: &mut impl Read) -> io::Result<bool> {
-    let alike = match (read_answer(first)?, read_answer(second)?) {
-        (Next::End, Next::End) => true,
-        (Next::One(a), Next::One(b)) => a == b && a.number == refusals::END,
-        _ => false,
-    };
+/// After the last request all streams end, or all say that the requests cannot be read on.
+fn ends_alike(streams: &mut [impl Read]) -> io::Result<bool> {
+    let ends: Vec<Next<Answer>> = streams.iter_mut().map(read_answer).collect::<io::Result<_>>()?;
+    let ended = ends.iter().all(|end| matches!(end, Next::End));
+    let alike = ended || ends.iter().all(|end| matches!(end, Next::One(a) if a.number == refusals::END));
     if !alike {
-        println!("the streams end differently");
+        println!("the streams end differently after the last request");
     }
     Ok(alike)
 }
 
-fn compare(files: &[String], most: u64) -> io::Result<bool> {
-    let open = |at: usize| File::open(&files[at]).map(BufReader::new);
-    let (mut requests, mut first, mut second) = (open(0)?, open(1)?, open(2)?);
-    let (mut counts, mut shown) = (Counts::new(), 0);
+/// Counts what is met; false if a stream is shorter than another.
+fn compare(files: &[String], most: u64, counts: &mut Counts) -> io::Result<bool> {
+    let mut requests = BufReader::new(File::open(&files[0])?);
+    let open = |file: &String| File::open(file).map(BufReader::new);
+    let mut streams: Vec<BufReader<File>> = files[1..].iter().map(open).collect::<io::Result<_>>()?;
+    let mut shown = 0;
     for at in 0.. {
         let Next::One(request) = read_request(&mut requests)? else { break };
-        let (Next::One(a), Next::One(b)) = (read_answer(&mut first)?, read_answer(&mut second)?) else {
-            println!("no answer to request {at}");
-            return Ok(false);
+        let mut judges = match answers(&mut streams)? {
+            Ok(answers) => answers,
+            Err(short) => {
+                println!("{} has no answer to request {at}: {}", files[1 + short], text::request(&request));
+                return Ok(false);
+            }
         };
-        let outcome = outcome(&a, &b);
-        if outcome == "DIFFERENT" && shown < most {
-            show(at, &request, &a, &b);
+        let b = judges.pop().expect("three files or more");
+        let outcome = outcome(&judges, &b);
+        if outcome == DIFFERENT && shown < most {
+            show(at, &request, &judges, &b);
             shown += 1;
         }
-        *counts.entry(request.code).or_default().entry(outcome).or_default() += 1;
+        counts.add(request.code, &outcome, 1);
+        if judges.len() > 1 && refusals::is_outside(judges[0].number) {
+            counts.add(request.code, UNJUDGED, 1);
+        }
     }
-    print_counts(&counts);
-    let alike = print_total(&counts) == 0;
-    Ok(ends_alike(&mut first, &mut second)? && alike)
+    ends_alike(&mut streams)
+}
+
+fn alike(wanted: &Wanted) -> io::Result<bool> {
+    if let Some(file) = &wanted.table {
+        let counts = Counts::read(file)?;
+        counts.print_table();
+        counts.print_total();
+        return Ok(counts.of(DIFFERENT) == 0);
+    }
+    let mut counts = Counts::default();
+    let whole = compare(&wanted.files, wanted.show, &mut counts)?;
+    match &wanted.add {
+        Some(file) => counts.add_to(file)?,
+        None => {
+            counts.print();
+            counts.print_total();
+        }
+    }
+    Ok(whole && counts.of(DIFFERENT) == 0)
 }
 
 fn main() -> io::Result<ExitCode> {
-    let mut files: Vec<String> = std::env::args().skip(1).collect();
-    let mut most = 5;
-    if let Some(at) = files.iter().position(|argument| argument == "--show") {
-        let number = files.drain(at..).nth(1).and_then(|n| n.parse().ok());
-        most = number.ok_or_else(|| io::Error::other("--show N"))?;
-    }
-    if files.len() != 3 {
-        return Err(io::Error::other("compare REQUESTS A B [--show N]"));
-    }
-    Ok(if compare(&files, most)? { ExitCode::SUCCESS } else { ExitCode::FAILURE })
+    let wanted = wanted(std::env::args().skip(1)).ok_or_else(|| io::Error::other(USE))?;
+    Ok(if alike(&wanted)? { ExitCode::SUCCESS } else { ExitCode::FAILURE })
 }

@@ -1,13 +1,14 @@
 // Writes a stream of requests to standard output, the same for the same arguments.
 //
-//   generate SEED COUNT [--calls LIST] [--rows N] [--faults PERCENT] [--wild]
+//   generate SEED COUNT [--calls LIST] [--rows N] [--faults PERCENT] [--wild | --random]
 //
 // LIST is codes with commas, each with a weight if wanted: 9:5,10,11. N is the most rows of a table (some more where
-// definitions need them). PERCENT of the requests get a fault. --wild damages every request's bytes.
+// definitions need them). PERCENT of the requests get a fault. --wild damages every request's bytes; --random puts random
+// bytes, mostly of other lengths, in the place of at least one of its arguments.
 use std::io::{self, BufWriter, Write};
 
 use generator::random::Random;
-use generator::{faults, requests, wild};
+use generator::{faults, noise, requests, wild};
 use wire::calls::CODES;
 
 struct Wanted {
@@ -18,6 +19,7 @@ struct Wanted {
     rows: usize,
     faults: usize,
     wild: bool,
+    random: bool,
 }
 
 fn calls(list: &str) -> Option<(Vec<u32>, Vec<usize>)> {
@@ -32,13 +34,14 @@ fn calls(list: &str) -> Option<(Vec<u32>, Vec<usize>)> {
 fn wanted(mut arguments: impl Iterator<Item = String>) -> Option<Wanted> {
     let (seed, count) = (arguments.next()?.parse().ok()?, arguments.next()?.parse().ok()?);
     let (codes, weights) = (CODES.collect(), CODES.map(|_| 1).collect());
-    let mut wanted = Wanted { seed, count, codes, weights, rows: 19, faults: 8, wild: false };
+    let mut wanted = Wanted { seed, count, codes, weights, rows: 19, faults: 8, wild: false, random: false };
     while let Some(switch) = arguments.next() {
         match switch.as_str() {
             "--calls" => (wanted.codes, wanted.weights) = calls(&arguments.next()?)?,
             "--rows" => wanted.rows = arguments.next()?.parse().ok().filter(|n| (1..=128).contains(n))?,
             "--faults" => wanted.faults = arguments.next()?.parse().ok()?,
             "--wild" => wanted.wild = true,
+            "--random" => wanted.random = true,
             _ => return None,
         }
     }
@@ -47,7 +50,9 @@ fn wanted(mut arguments: impl Iterator<Item = String>) -> Option<Wanted> {
 
 fn main() -> io::Result<()> {
     let Some(wanted) = wanted(std::env::args().skip(1)) else {
-        return Err(io::Error::other("generate SEED COUNT [--calls LIST] [--rows N] [--faults PERCENT] [--wild]"));
+        return Err(io::Error::other(
+            "generate SEED COUNT [--calls LIST] [--rows N] [--faults PERCENT] [--wild | --random]",
+        ));
     };
     let mut random = Random::new(wanted.seed);
     let mut output = BufWriter::new(io::stdout().lock());
@@ -60,6 +65,9 @@ fn main() -> io::Result<()> {
         let mut request = draft.request();
         if wanted.wild {
             request = wild::damaged(&mut random, request);
+        }
+        if wanted.random {
+            request = noise::filled(&mut random, request);
         }
         output.write_all(&request.to_bytes())?;
     }

@@ -1,10 +1,11 @@
 // Reads the stream of requests from standard input and answers it by the published Rust.
 //
-//   oracle [--unaltered] [--reading | --beyond] [--any-cost] [--flags]
+//   oracle [--unaltered] [--reading | --beyond] [--any-cost] [--flags] [--standing CODES]
 //
 // --unaltered gives the Rust's own powi and powf back; --reading answers by 01's rules instead of the Rust, all refusals
 // included; --beyond lets the Rust answer too where 01 says RANGE or FRACTION; --any-cost where its trees are large;
-// --flags says on standard error which requests made the Rust raise a scale other than 1 to a fraction.
+// --flags says on standard error which requests made the Rust raise a scale other than 1 to a fraction; --standing takes
+// codes with commas, and every other code is an unknown one.
 use std::io::{self, BufReader, BufWriter, Read, Write};
 use std::panic::{self, AssertUnwindSafe};
 
@@ -18,6 +19,13 @@ struct Switches {
     beyond: bool,
     any_cost: bool,
     flags: bool,
+    standing: Option<Vec<u32>>,
+}
+
+impl Switches {
+    fn knows(&self, request: &Request) -> bool {
+        self.standing.as_ref().is_none_or(|codes| codes.contains(&request.code))
+    }
 }
 
 /// The Rust's answer, or why there is none.
@@ -36,8 +44,8 @@ fn run(input: &mut impl Read, output: &mut impl Write, switches: &Switches) -> i
     for at in 0u64.. {
         let request = match read_request(input)? {
             Next::End => break,
-            Next::Broken => return Answer::refused(END).write(output),
-            Next::One(request) => request,
+            Next::One(request) if switches.knows(&request) => request,
+            _ => return Answer::refused(END).write(output),
         };
         let answer = if switches.reading { scope::calls::answer(&request) } else { by_the_rust(&request, switches) };
         answer.write(output)?;
@@ -48,15 +56,22 @@ fn run(input: &mut impl Read, output: &mut impl Write, switches: &Switches) -> i
     Ok(())
 }
 
+fn codes(list: Option<String>) -> io::Result<Vec<u32>> {
+    let parsed = list.and_then(|list| list.split(',').map(|code| code.parse().ok()).collect());
+    parsed.ok_or_else(|| io::Error::other("--standing 1,2,.."))
+}
+
 fn main() -> io::Result<()> {
     let mut switches = Switches::default();
-    for argument in std::env::args().skip(1) {
+    let mut arguments = std::env::args().skip(1);
+    while let Some(argument) = arguments.next() {
         match argument.as_str() {
             "--unaltered" => power::unaltered(),
             "--reading" => switches.reading = true,
             "--beyond" => switches.beyond = true,
             "--any-cost" => switches.any_cost = true,
             "--flags" => switches.flags = true,
+            "--standing" => switches.standing = Some(codes(arguments.next())?),
             other => return Err(io::Error::other(format!("unknown switch {other}"))),
         }
     }

@@ -1,0 +1,47 @@
+// A buffer over a file descriptor: what was read and not used lies from `at` to `end`.
+ghost use mathlib.Core.Path.{_≡_};
+ghost use Prim.Native.Nat.{_+_, _≤_};
+ghost use lib.ListN.{length};
+
+pub struct Held {
+    pub at: usize,
+    pub end: usize,
+    // Whether there may be more: false once the input has ended.
+    pub live: bool,
+}
+
+// 262,144 zeros: more than the longest request, 3 arguments of 65,536 bytes.
+pub fn space() -> [u8; 262144]
+    ensures { λ r. ⌜ 262144 ≡ length r ⌝ }
+{
+    [0; 262144]
+}
+
+// Moves s[at..end] to the front of s.
+fn shift(s: &mut [u8], at: usize, end: usize)
+    requires { ⌜ (at ≤ end) × (end ≤ length (now s)) ⌝ }
+{
+    let mut i: usize = 0;
+    let mut j = at;
+    while j < end {
+        s[i] = s[j];
+        i += 1;
+        j += 1;
+    }
+}
+
+// Moves the `end - at` bytes that are left to the front, and reads more behind them, once.
+pub fn refill(fd: i32, inp: &mut [u8], at: usize, end: usize) -> Held
+    requires { ⌜ (at ≤ end) × (end ≤ length (now inp)) ⌝ }
+    ensures { λ r. ⌜ (r .at ≤ r .end) × (r .end ≤ length (now (inp .entry))) ⌝ }
+{
+    shift(inp, at, end);
+    let have = end - at;
+    let got = libc::read(fd, &mut inp[have..]);
+    let n = io::count(got, &inp[have..]);
+    Held {
+        at: 0,
+        end: have + n,
+        live: n != 0,
+    }
+}
