@@ -1,6 +1,7 @@
 -- The stream of requests and answers (the byte form, "The stream of `calls`").
+use mathlib.Core.Path.{_≡_}
 use mathlib.Core.List.{List, [], _++_}
-use Prim.Native.Nat.{ℕ, zero, suc, _+_, _-_}
+use Prim.Native.Nat.{ℕ, zero, suc, _+_, _-_, _≤_, _<_}
 use lib.Dec.{eqb, ltb}
 use lib.ListN.{length, take, drop, replicate}
 use Rattle.exponents.specs.Outcome.{Outcome, given, refused, number}
@@ -8,6 +9,7 @@ use Rattle.tables.specs.Rows.{pick}
 use Rattle.wire.specs.Bytes.{le, bytesOf}
 use Rattle.replies.specs.Replies.{sent}
 use Rattle.stream.specs.Calls.{callOf}
+use Rattle.stream.specs.declared.Fed.{Fed}
 use Rattle.stream.specs.declared.Frame.{Frame}
 
 -- ---- a request: its code, then each argument's length and bytes
@@ -76,3 +78,16 @@ answers (suc n) s i = answerBytes (answered (le 4 s i) (behind s i)) ++ answers 
 -- how the next request lies, where fewer than 4 bytes are short of one
 unfoldable pub next : List ℕ → ℕ → ℕ
 next s i = pick (ltb (length s - i) 4) (short .kind) (framed (le 4 s i) s (i + 4) .kind)
+
+-- what is told of the requests s once some are answered into a room, and what the room holds at the end
+pub record Feeds (s room : List ℕ) (r : Fed) (end : List ℕ) : Type 0 where
+  -- each that is answered was whole
+  pub each : (k : ℕ) → k < r .count → next s (ends k s 0) ≡ whole 0 .kind
+  pub used : r .used ≡ ends (r .count) s 0
+  pub inside : r .used ≤ length s
+  pub wrote : r .wrote ≡ length (answers (r .count) s 0)
+  pub fits : r .wrote ≤ length room
+  pub held : end ≡ answers (r .count) s 0 ++ drop (r .wrote) room
+  pub lies : r .next ≡ next s (r .used)
+  -- a whole one is left only for want of room
+  pub full : r .next ≡ whole 0 .kind → length room < r .wrote + 344

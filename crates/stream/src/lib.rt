@@ -2,7 +2,7 @@
 // `feed` answers what is whole, `answer` one request; `framed` tells how a request lies.
 ghost use mathlib.Core.Path.{_≡_};
 ghost use mathlib.Core.List.{_++_};
-ghost use Prim.Native.Nat.{ℕ, _+_, _-_, _≤_, _<_};
+ghost use Prim.Native.Nat.{_+_, _-_, _≤_};
 ghost use lib.ListN.{length, take, drop};
 ghost use Rattle.replies.specs.Replies.{Replied};
 ghost use Rattle.stream.specs.Calls.{callOf};
@@ -199,7 +199,7 @@ fn one(code: u32, args: &[u8], out: &mut [u8], o: usize) -> usize
 // Answers the requests at the start of inp, one behind the other, until one is not whole or out has no room for one
 // more answer.
 pub fn feed(inp: &[u8], out: &mut [u8]) -> Fed
-    ensures { λ r. ⌜ (r .used ≡ spec.ends (r .count) (now (inp .entry)) 0) × (r .used ≤ length (now (inp .entry))) × (r .wrote ≡ length (spec.answers (r .count) (now (inp .entry)) 0)) × (r .wrote ≤ length (now (out .entry))) × (now (out .exit) ≡ spec.answers (r .count) (now (inp .entry)) 0 ++ drop (r .wrote) (now (out .entry))) × (r .next ≡ spec.next (now (inp .entry)) (r .used)) × ((k : ℕ) → k < r .count → spec.next (now (inp .entry)) (spec.ends k (now (inp .entry)) 0) ≡ 0) × (r .next ≡ 0 → length (now (out .entry)) < r .wrote + 344) ⌝ }
+    ensures { λ r. ⌜ spec.Feeds (now (inp .entry)) (now (out .entry)) r (now (out .exit)) ⌝ }
 {
     let mut at: usize = 0;
     let mut o: usize = 0;

@@ -42,16 +42,17 @@ same-length c = search needs
 
 returns : tie.Need-returns Inv-loop μ-loop
 returns c =
-    let so = c .before .before .before .before .before .loop .inv .4 in (
-      so .ended,
-      search needs,
-      so .wrote,
-      omega arith,
-      so .held,
-      next-is _ _ _ _ (omega arith) (c .before .before .before .read-u32 .ensures) (c .before .before .framed .ensures),
-      so .whole,
-      λ z. omega (arith, stops (c .before .before .framed .result .kind) (length (c .before .before .before .before .before .loop .out) - c .before .before .before .before .before .loop .o) (c .if1 .taken) z),
-    )
+    let so = c .before .before .before .before .before .loop .inv .4 in
+    record {
+      each = so .whole;
+      used = so .ended;
+      inside = search needs;
+      wrote = so .wrote;
+      fits = omega arith;
+      held = so .held;
+      lies = next-is _ _ _ _ (omega arith) (c .before .before .before .read-u32 .ensures) (c .before .before .framed .ensures);
+      full = λ z. omega (arith, stops (c .before .before .framed .result .kind) (length (c .before .before .before .before .before .loop .out) - c .before .before .before .before .before .loop .o) (c .if1 .taken) z);
+    }
 
 -- past the test
 on : (c : lts.Else1 (read-u32-reads.Asked, read-u32-reads.Learnt, framed-reads.Asked, framed-reads.Learnt, one-reads.Asked, one-reads.Learnt) reads.Pre reads.Post Inv-loop μ-loop)
@@ -92,7 +93,16 @@ same-length-2 c = search needs
 returns-2 : tie.Need-returns-2 Inv-loop μ-loop
 returns-2 c =
     let so = c .before .loop .inv .4 in
-    (so .ended, search needs, so .wrote, omega arith, so .held, next-short _ _ (omega arith), so .whole, λ z. absurd (omega arith))
+    record {
+      each = so .whole;
+      used = so .ended;
+      inside = search needs;
+      wrote = so .wrote;
+      fits = omega arith;
+      held = so .held;
+      lies = next-short _ _ (omega arith);
+      full = λ z. absurd (omega arith);
+    }
 
 pub feed-spec : {M : Type 1} → statement M
 feed-spec =
