@@ -1,0 +1,124 @@
+-- No answer is longer than a quantity, so that room for one is room for every answer: the stream's own room refuses none.
+use mathlib.Core.Path.{_≡_, refl, sym, _∙_}
+use mathlib.Core.Logic.{_↔_}
+use mathlib.Core.List.{List, [], _∷_}
+use Prim.Native.Nat.{ℕ, _≤_}
+use native.Mathlib.Omega.{arith}
+use borrow.Author.Tests.{le-ltb}
+use lib.Dec.{eqb}
+use lib.Ieee.{Float}
+use lib.ListN.{length, length-append, length-replicate}
+use Rattle.exponents.specs.Outcome.{Outcome, refused, ROOM, unless, map, bind}
+use Rattle.exponents.proofs.Holds.{Holds, moot, held, holds-imp, holds-map}
+use Rattle.units.specs.declared.Factor.{Factor}
+use Rattle.units.specs.declared.Quantity.{Quantity}
+use Rattle.units.specs.Prefixes.{prefixFactor}
+use Rattle.units.specs.Lists.{pack}
+use Rattle.reduction.specs.Multiple.{Maybe, times, none}
+use Rattle.lists.specs.Calls as lists
+use Rattle.quantities.specs.Calls as quantities
+use Rattle.wire.specs.Bytes.{bytesOf}
+use Rattle.wire.specs.Records.{quantityBytes, flag}
+use Rattle.wire.specs.Arguments.{prefixFrom, exponentFrom, listFrom, quantityFrom, tableFrom}
+use Rattle.wire.proofs.Digits.{length-bytesOf}
+use Rattle.wire.proofs.Stored.{length-exponentBytes, length-listBytes, length-quantityBytes}
+use Rattle.replies.specs.Replies.{sent, orderNumber, unitBytes, valueBytes, reducedBytes, verdictBytes, orderBytes, multipleBytes}
+use Rattle.replies.proofs.Parts.{value-sized}
+use Rattle.requests.specs.Calls as requests
+use Rattle.stream.specs.Calls.{Call, calls, look, callOf}
+use Rattle.stream.specs.Stream.{lent, answerTo, answered}
+use Rattle.promises.proofs.Factors as factors
+use Rattle.promises.proofs.Factors.{Few, either, mapped}
+use Rattle.promises.proofs.Filled as filled
+use Rattle.promises.proofs.Filled.{Full, pack-full}
+
+-- at most as long as a quantity
+abbrev pub Short : List ℕ → Type 0
+Short bs = length bs ≤ 336
+
+-- ---- the answers' bytes
+
+-- bytes of one size, whatever the answer
+sized : {A : Type 0} (bytes : A → List ℕ) (size : ℕ) → size ≤ 336 → ((a : A) → length (bytes a) ≡ size) → (o : Outcome A) → Holds Short (map bytes o)
+sized bytes size h e o = mapped bytes o λ a. omega (arith, e a)
+
+number-short : {A : Type 0} (number : A → ℕ) (o : Outcome A) → Holds Short (map (λ a. bytesOf 4 (number a)) o)
+number-short number = sized (λ a. bytesOf 4 (number a)) 4 (omega arith) λ a. length-bytesOf 4 (number a)
+
+unit-short : {o : Outcome (List Factor)} → Holds Few o → Holds Short (map unitBytes o)
+unfolding unitBytes
+unit-short h = holds-map unitBytes h λ fs k. omega (arith, length-listBytes (pack fs) (pack-full fs k))
+
+quantity-short : {o : Outcome Quantity} → Holds Full o → Holds Short (map quantityBytes o)
+quantity-short h = holds-map quantityBytes h λ q k. omega (arith, length-quantityBytes q k)
+
+reduced-short : {o : Outcome (List Factor × Float)} → Holds (λ p. Few (p .0)) o → Holds Short (map reducedBytes o)
+unfolding reducedBytes valueBytes unitBytes
+reduced-short h = holds-map reducedBytes h λ p k. simp (length-append, length-bytesOf) (omega (arith, length-listBytes (pack (p .0)) (pack-full (p .0) k)))
+
+multiple-sized : (m : Maybe) → length (multipleBytes m) ≡ 12
+unfolding multipleBytes
+multiple-sized (times e) = simp (length-append, length-bytesOf, length-exponentBytes)
+multiple-sized none = simp (length-append, length-bytesOf, length-exponentBytes)
+
+-- ---- every call
+
+abbrev Brief : Call → Type 0
+Brief c = (x y z : List ℕ) → Holds Short (c .answer x y z)
+
+infixr 1 _and_
+-- each call of a list answers so, whatever it is asked
+data Each : List Call → Type 0 where
+  done : Each []
+  _and_ : {c : Call} {l : List Call} → Brief c → Each l → Each (c ∷ l)
+
+calls-brief : Each calls
+unfolding calls requests.prefixFactor requests.product requests.quotient requests.listPower requests.canonical requests.sameList requests.reduceList requests.reduce requests.convertTo requests.add requests.subtract requests.multiply requests.checkedDiv requests.checkedPower requests.negate requests.magnitude requests.equal requests.compare requests.smallerUnit requests.isMultipleOf requests.noSimplify verdictBytes orderBytes
+calls-brief =
+    (λ p _ _. sized valueBytes 8 (omega arith) value-sized (prefixFactor (prefixFrom p)))
+    and (λ t a b. unit-short (factors.product-few (tableFrom t) (listFrom a) (listFrom b)))
+    and (λ t a b. unit-short (factors.quotient-few (tableFrom t) (listFrom a) (listFrom b)))
+    and (λ t a b. unit-short (factors.power-few (tableFrom t) (listFrom a) (exponentFrom b)))
+    and (λ t a _. unit-short (factors.canonical-few (tableFrom t) (listFrom a)))
+    and (λ t a b. number-short flag (lists.sameLists (tableFrom t) (listFrom a) (listFrom b)))
+    and (λ t a _. reduced-short (factors.reduction-few (tableFrom t) (listFrom a)))
+    and (λ t a _. quantity-short (filled.reduce-full (tableFrom t) (quantityFrom a)))
+    and (λ t a b. quantity-short (filled.convert-full (tableFrom t) (quantityFrom a) (listFrom b)))
+    and (λ t a b. quantity-short (filled.add-full (tableFrom t) (quantityFrom a) (quantityFrom b)))
+    and (λ t a b. quantity-short (filled.subtract-full (tableFrom t) (quantityFrom a) (quantityFrom b)))
+    and (λ t a b. quantity-short (filled.multiply-full (tableFrom t) (quantityFrom a) (quantityFrom b)))
+    and (λ t a b. quantity-short (filled.divide-full (tableFrom t) (quantityFrom a) (quantityFrom b)))
+    and (λ t a b. quantity-short (filled.power-full (tableFrom t) (quantityFrom a) (quantityFrom b)))
+    and (λ t a _. quantity-short (filled.negate-full (tableFrom t) (quantityFrom a)))
+    and (λ t a _. quantity-short (filled.magnitude-full (tableFrom t) (quantityFrom a)))
+    and (λ t a b. number-short flag (quantities.equal (tableFrom t) (quantityFrom a) (quantityFrom b)))
+    and (λ t a b. number-short orderNumber (quantities.compare (tableFrom t) (quantityFrom a) (quantityFrom b)))
+    and (λ t a b. unit-short (factors.smaller-few (tableFrom t) (listFrom a) (listFrom b)))
+    and (λ t a b. sized multipleBytes 12 (omega arith) multiple-sized (lists.multiple (tableFrom t) (listFrom a) (listFrom b)))
+    and (λ t a _. quantity-short (filled.unmarked-full (tableFrom t) (quantityFrom a)))
+    and done
+
+look-brief : {l : List Call} (n : ℕ) → Each l → Brief (look l n)
+unfolding look
+look-brief n done = λ x y z. moot
+look-brief n (_and_ {c = c} {l = l} b e) = either Brief (eqb n (c .code)) c (look l n) b (look-brief n e)
+
+pub short : (code : ℕ) (s : List ℕ) → Holds Short (answerTo code s)
+unfolding answerTo callOf
+short code s = look-brief code calls-brief _ _ _
+
+-- ---- the stream's room
+
+-- what the room holds is sent as it is
+sent-whole : (room : List ℕ) {o : Outcome (List ℕ)} → Holds (λ bs. length bs ≤ length room) o → sent room o ≡ o
+unfolding sent bind unless
+sent-whole room moot = refl
+sent-whole room (held {a = bs} h) = rw (le-ltb (length room) (length bs) h)
+
+pub answered-is : (code : ℕ) (s : List ℕ) → answered code s ≡ answerTo code s
+unfolding answered lent
+answered-is code s = sent-whole lent (holds-imp (short code s) λ bs h. omega (arith, length-replicate {A = ℕ} 336 0))
+
+-- ROOM in the stream is the call's own
+pub room-own : (code : ℕ) (s : List ℕ) → (answered code s ≡ refused ROOM) ↔ (answerTo code s ≡ refused ROOM)
+room-own code s = (λ e. sym (answered-is code s) ∙ e, λ e. answered-is code s ∙ e)
