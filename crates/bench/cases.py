@@ -17,6 +17,7 @@ GRAM, METRE, SECOND, BIT, MINUTE, HOUR, BYTE, NEWTON = (f"0{row}." for row in ra
 KIBIBYTE, BINARY_METRE, PREFIX_1100, PREFIX_1101 = "06K", "01B", "01P", "01Q"
 ROOT_NEWTON, ROOT_BASE, BASE, CUBIC_METRE, SCALAR = "07h", "00s", "00g", "01t", "00_"
 TENTHS, PER_HOUR, KILO_PER_HOUR = "01D", "01v", "01V"
+MINUTE_HOUR, SQUARE_MINUTE, KILO_BASE = "04w", "04d", "00G"
 ROW_127, ROW_128 = "7f.", "80."
 NONE = q(0.0, SCALAR, "u")
 TABLE, SHAPE, UNKNOWN, ROOM, RANGE, UNITS, FRACTION, DIVZERO, ZERONEG, NONWHOLE, NAN_REFUSED = "123456789ab"
@@ -51,6 +52,7 @@ STARRED = [
 ]
 UNSTARRED = [
     ("1 hour + 30 minute", "+", q(1, HOUR), q(30, MINUTE), q(90, MINUTE)),
+    ("2 minute hour simplified", "f", q(2, MINUTE_HOUR), NONE, q(120, SQUARE_MINUTE)),
     ("16 factors", "n", q(5, metres(16)), NONE, q(-5, metres(16))),
     ("17 factors", "n", q(5, metres(17)), NONE, SHAPE),
     ("8 factors times 8", "*", q(2, metres(8)), q(3, metres(8)), q(6, metres(16))),
@@ -84,6 +86,10 @@ OTHERS = [
     ("5 unmarked metre negated", "n", q(5, METRE, "u"), NONE, q(-5, METRE)),
     ("abs of -5 unmarked metre", "a", q(-5, METRE, "u"), NONE, q(5, METRE)),
     ("no_simplify of 5 metre", "x", q(5, METRE), NONE, q(5, METRE, "u")),
+    ("2 unmarked minute hour simplified", "f", q(2, MINUTE_HOUR, "u"), NONE, q(2, MINUTE_HOUR, "u")),
+    ("3 metre per hour simplified", "f", q(3, PER_HOUR), NONE, q(3, PER_HOUR)),
+    ("5 kilogram metre second^-2, candidate newton", "F", q(5, KILO_BASE), to(NEWTON), q(5, NEWTON)),
+    ("5 kilogram metre second^-2, candidate metre", "F", q(5, KILO_BASE), to(METRE), q(5, KILO_BASE)),
     ("2 newton reduced", "r", q(2, NEWTON, "u"), NONE, q(2000, BASE)),
 ]
 

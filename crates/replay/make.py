@@ -1,7 +1,7 @@
 #!/usr/bin/env python3
 """Writes the files that `replay` must find wrong, its arguments and what it is to print.
 
-  make.py      beside data/call-NN.bin and data/edges-*.bin
+  make.py      beside data/call-NN.bin, data/edges-*.bin and data/named-simplifications.bin
 
 wrong.bin is the first records of a stored file with three answers spoiled; cut.bin is a stored file's first bytes.
 How many records a file has is counted here, by the lengths in its bytes.
@@ -11,9 +11,8 @@ import struct
 
 HERE = pathlib.Path(__file__).parent
 DATA = HERE / "data"
-# The codes that stand: 21 and 22 wait for simplification.
-TWO = {5, 7, 8, 15, 16, 23}
-STANDING = [*range(1, 21), 23]
+TWO = {5, 7, 8, 15, 16, 21, 23}
+STANDING = range(1, 24)
 
 
 def arguments(code):
@@ -67,7 +66,8 @@ def said(name, right, found, used):
 
 
 def main():
-    names = [f"call-{code:02}.bin" for code in STANDING] + ["edges-admissions.bin", "edges-limits.bin"]
+    names = [f"call-{code:02}.bin" for code in STANDING]
+    names += ["edges-admissions.bin", "edges-limits.bin", "named-simplifications.bin"]
     stored = {name: (DATA / name).read_bytes() for name in names}
     source = list(records(stored["call-18.bin"]))[:40]
     wrong = [(request, framed(spoil(k, answer))) for k, (request, answer) in enumerate(source)]

@@ -1,17 +1,20 @@
 // Runs 01's bench list over its table. Each line of the input is a case: its name, a call, two quantities and what must be answered. It is written again with whether that is so.
 //
 // Columns: 0 the name; 52 the call; 54 and 76 the quantities; 98 the number of a refusal, a word, or 0; 100 the quantity answered.
-// Calls: c convert_to (the second's list), r reduce, + - * / ^, a abs, x no_simplify, o compare, e equal, l equal lists; n negate, N the same with 128 rows, M with 129.
+// Calls: c convert_to (the second's list), r reduce, + - * / ^, a abs, x no_simplify, o compare, e equal, l equal lists; n negate, N the same with 128 rows, M with 129;
+// f full_simplify, F with the second's list as the one candidate.
 // Words: y yes, q no, < = >.
-// A quantity: its value's bits; its list; m marked or u unmarked. A list: a row, then how it is taken. `.` to 1, `h` to 1/2, `t` to 3;
+// A quantity: its value's bits; its list; m marked or u unmarked. A list: a row, then how it is taken. `.` to 1, `h` to 1/2, `d` to 2, `t` to 3, `w` times hour;
 // `B` with Binary(0), `K` Binary(10), `P` Metric(1100), `Q` Metric(1101); `*` so many factors metre; and whatever the row is,
-// `_` no factor, `g` gram·metre·second^-2, `s` gram^(1/2)·metre^(1/2)·second^-1. `cases.py` writes the lines.
+// `_` no factor, `g` gram·metre·second^-2, `G` the same of kilogram, `s` gram^(1/2)·metre^(1/2)·second^-1. `cases.py` writes the lines.
 use canonical::equality::Verdict;
 use exponents::Exponent;
 use libc::STDIN_FILENO;
 use libc::STDOUT_FILENO;
 use quantities::comparisons::Compared;
 use tables::order::Sense;
+use units::Candidate;
+use units::Candidates;
 use units::Factor;
 use units::Factors;
 use units::Kind;
@@ -160,6 +163,7 @@ fn prefix_of(how: u8) -> Prefix {
 fn exponent_of(how: u8) -> Exponent {
     match how {
         b'h' => Exponent { num: 1, den: 2 },
+        b'd' => Exponent { num: 2, den: 1 },
         b't' => Exponent { num: 3, den: 1 },
         _ => Exponent { num: 1, den: 1 },
     }
@@ -181,9 +185,10 @@ fn again(f: Factor, g: Factor) -> Factors {
     l
 }
 
-fn per_hour(f: Factor) -> Factors {
+// A factor and hour to n.
+fn with_hour(f: Factor, n: i32) -> Factors {
     let mut l = one(f);
-    l.at[1] = plain(5, -1, 1);
+    l.at[1] = plain(5, n, 1);
     l.len = 2;
     l
 }
@@ -195,6 +200,12 @@ fn three(den: u32, n: i32) -> Factors {
     l.at[2] = plain(2, n, 1);
     l.len = 3;
     l
+}
+
+fn of_kilogram(l: Factors) -> Factors {
+    let mut m = l;
+    m.at[0] = factor(0, Prefix::Metric(3), Exponent { num: 1, den: 1 });
+    m
 }
 
 fn metres(n: u32) -> Factors {
@@ -210,12 +221,14 @@ fn list(n: u32, how: u8) -> Factors {
         b'_' => units::lists::empty(),
         b'*' => metres(n),
         b'g' => three(1, -2),
+        b'G' => of_kilogram(three(1, -2)),
         b's' => three(2, -1),
         b'D' => again(
             factor(n, prefix_of(how), Exponent { num: 1, den: 1 }),
             factor(n, prefix_of(how), Exponent { num: -1, den: 1 }),
         ),
-        b'V' | b'v' => per_hour(factor(n, prefix_of(how), exponent_of(how))),
+        b'V' | b'v' => with_hour(factor(n, prefix_of(how), exponent_of(how)), -1),
+        b'w' => with_hour(plain(n, 1, 1), 1),
         _ => one(factor(n, prefix_of(how), exponent_of(how))),
     }
 }
@@ -281,6 +294,14 @@ fn rows_for(call: u8) -> usize {
     }
 }
 
+fn candidate(l: Factors) -> Candidates {
+    let c = Candidate { unit: l, rank: 0 };
+    Candidates {
+        at: [c; 32],
+        len: 1,
+    }
+}
+
 fn changed(call: u8, q: Quantity, l: Factors) -> Answer {
     let t = table(rows_for(call));
     match call {
@@ -288,6 +309,8 @@ fn changed(call: u8, q: Quantity, l: Factors) -> Answer {
         b'r' => values::single::reduce(t, q),
         b'a' => values::single::abs(t, q),
         b'x' => values::single::no_simplify(t, q),
+        b'f' => simplification::full_simplify(t, q),
+        b'F' => registry::full_simplify_with(t, q, candidate(l)),
         _ => values::single::negate(t, q),
     }
 }

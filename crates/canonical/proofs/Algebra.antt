@@ -62,7 +62,7 @@ module _ (W : Value) where
   unless-exact f l b true e = sym (cons f l b ∙ simp (W .same-is _ _ e, W .nil-act, zero-add W))
   unless-exact f l b false e = refl
 
-  nonzero-exact : (l : List Factor) (b : ℕ → Exponent) → exact (nonzero l) b ≡ exact l b
+  pub nonzero-exact : (l : List Factor) (b : ℕ → Exponent) → exact (nonzero l) b ≡ exact l b
   unfolding nonzero
   nonzero-exact [] b = refl
   nonzero-exact (f ∷ l) b = unless-exact f (nonzero l) b _ refl ∙ simp (cons, nonzero-exact l b)

@@ -11,7 +11,7 @@ use Rattle.canonical.specs.Order.{Atom, atom}
 use Rattle.canonical.specs.Canonical.{isEq, sameList}
 use Rattle.canonical.proofs.Decides.{Decides, decides-imp, always, never, and-decides}
 
-isEq-decides : (o : Ordering) → Decides (o ≡ Ordering·eq) (isEq o)
+pub isEq-decides : (o : Ordering) → Decides (o ≡ Ordering·eq) (isEq o)
 unfolding isEq
 isEq-decides Ordering·lt = never λ e. let z : _≡_ {A = ℕ} 0 1 = cc in omega arith
 isEq-decides Ordering·eq = always refl

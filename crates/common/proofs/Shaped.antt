@@ -1,6 +1,6 @@
--- What is made of lists whose factors keep their rule keeps it: canonical forms, common factors, what is left over those. And none is longer than its list.
-use mathlib.Core.Path.{_≡_, refl, ap₂, subst}
-use mathlib.Core.Bool.{Bool, true, false, _&&_, _||_}
+-- What is made of lists whose factors keep their rule keeps it: canonical forms, common factors, what is left over those; and none is longer than its list.
+use mathlib.Core.Path.{_≡_, subst}
+use mathlib.Core.Bool.{Bool, true, false, _&&_}
 use mathlib.Core.List.{List, [], _∷_, _++_, map}
 use Prim.Native.Nat.{ℕ, suc, _≤_, Ordering, Ordering·lt, Ordering·eq, Ordering·gt}
 use native.Mathlib.Omega.{arith}
@@ -10,54 +10,30 @@ use Rattle.exponents.specs.Fractions.{nought, neg, less, faulty, same, add?}
 use Rattle.exponents.specs.declared.Exponent.{Exponent}
 use Rattle.exponents.proofs.Holds.{Holds, held, holds-imp, holds-map, holds-bind}
 use Rattle.exponents.proofs.Exact.{neg-low}
-use Rattle.exponents.proofs.InRange.{or-left, or-right, sound, neg-in-range, keeps-rule}
+use Rattle.exponents.proofs.InRange.{sound, neg-in-range, keeps-rule}
 use Rattle.exponents.proofs.Sound.{add-sound}
 use Rattle.units.specs.declared.Factor.{Factor}
-use Rattle.units.specs.Prefixes.{prefixFault}
 use Rattle.units.specs.Lists.{some, factorFault, withExponent, inverted}
 use Rattle.units.proofs.Sound.{exponent-sound}
-use Rattle.tables.specs.Rows.{pick}
 use Rattle.tables.proofs.Places.{All}
 use Rattle.canonical.specs.Order.{Atom, atom, of}
 use Rattle.canonical.specs.Canonical.{unless, canon}
-use Rattle.canonical.proofs.Keeping.{unless-keeps, canon-keeps}
+use Rattle.canonical.proofs.Keeping.{pick-is, all-append, each-faultless, none-faulty, Kept, kept-with, unless-keeps, canon-keeps}
 use Rattle.common.specs.declared.Shared.{Shared}
 use Rattle.common.specs.declared.Shared.the-variants.{Takes, Nothing}
 use Rattle.common.specs.Common.{meet, ifSame, withShared, sharedWith, common}
 use Rattle.common.specs.Lessened.{taken, lessen}
-
-abbrev Kept : Factor → Type 0
-Kept f = factorFault f ≡ false
-
-all-kept : (l : List Factor) → some factorFault l ≡ false → All Kept l
-unfolding some
-all-kept [] h = tt
-all-kept (f ∷ l) h = (or-left (factorFault f) (some factorFault l) h, all-kept l (or-right (factorFault f) (some factorFault l) h))
-
-kept-all : (l : List Factor) → All Kept l → some factorFault l ≡ false
-unfolding some
-kept-all [] h = refl
-kept-all (f ∷ l) h = ap₂ _||_ (h .0) (kept-all l (h .1))
-
--- a factor with another exponent
-kept-with : (f : Factor) (e : Exponent) → Kept f → faulty e ≡ false → Kept (of (atom f) e)
-unfolding factorFault
-kept-with f e h k = ap₂ _||_ (or-left (prefixFault (f .prefix)) (faulty (f .exponent)) h) k
 
 -- ---- what two factors share is one of their exponents
 abbrev Fine : Shared → Type 0
 Fine (Takes e) = faulty e ≡ false
 Fine Nothing = Unit {0}
 
-pick-fine : (t : Bool) (a b : Shared) → Fine a → Fine b → Fine (pick t a b)
-pick-fine true a b p q = p
-pick-fine false a b p q = q
-
 meet-fine : (x y : Exponent) → faulty x ≡ false → faulty y ≡ false → Fine (meet x y)
 unfolding meet
 meet-fine x y p q =
-    pick-fine (less nought x && less nought y) _ _ (pick-fine (less x y) (Takes x) (Takes y) p q)
-    (pick-fine (less x nought && less y nought) _ _ (pick-fine (less x y) (Takes y) (Takes x) q p) tt)
+    pick-is Fine (less nought x && less nought y) (pick-is Fine (less x y) {a = Takes x} {b = Takes y} p q)
+    (pick-is Fine (less x nought && less y nought) (pick-is Fine (less x y) {a = Takes y} {b = Takes x} q p) tt)
 
 if-fine : (o : Ordering) (a b : Shared) → Fine a → Fine b → Fine (ifSame o a b)
 unfolding ifSame
@@ -85,15 +61,11 @@ inverted-all [] h = tt
 inverted-all (f ∷ l) h = (inverted-keeps f (h .0), inverted-all l (h .1))
 
 pub inverted-kept : (l : List Factor) → some factorFault l ≡ false → some factorFault (map inverted l) ≡ false
-inverted-kept l h = kept-all (map inverted l) (inverted-all l (all-kept l h))
+inverted-kept l h = none-faulty factorFault (map inverted l) (inverted-all l (each-faultless factorFault l h))
 
 -- ---- lists joined
-join-all : (l m : List Factor) → All Kept l → All Kept m → All Kept (l ++ m)
-join-all [] m h k = k
-join-all (f ∷ l) m h k = (h .0, join-all l m (h .1) k)
-
 pub join-kept : (l m : List Factor) → some factorFault l ≡ false → some factorFault m ≡ false → some factorFault (l ++ m) ≡ false
-join-kept l m h k = kept-all (l ++ m) (join-all l m (all-kept l h) (all-kept m k))
+join-kept l m h k = none-faulty factorFault (l ++ m) (all-append Kept l m (each-faultless factorFault l h) (each-faultless factorFault m k))
 
 -- ---- merged
 merged-kept : (x y : Factor) → Kept x → Kept y → Holds (λ e. Kept (of (atom y) e)) (add? (y .exponent) (x .exponent))
@@ -103,7 +75,7 @@ merged-kept x y p q = holds-imp (add-sound (y .exponent) (x .exponent)) λ e s. 
 module _ (cmp : Atom → Atom → Ordering) where
   -- ---- canonical forms
   pub canon-kept : (l : List Factor) → some factorFault l ≡ false → Holds (λ c. some factorFault c ≡ false) (canon cmp l)
-  canon-kept l h = holds-imp (canon-keeps Kept merged-kept cmp l (all-kept l h)) kept-all
+  canon-kept l h = holds-imp (canon-keeps Kept merged-kept cmp l (each-faultless factorFault l h)) (none-faulty factorFault)
 
   -- ---- common factors
   shared-fine : (f : Factor) (m : List Factor) → faulty (f .exponent) ≡ false → All Kept m → Fine (sharedWith cmp f m)
@@ -112,7 +84,7 @@ module _ (cmp : Atom → Atom → Ordering) where
   shared-fine f (g ∷ m) p h = if-fine _ _ _ (meet-fine (f .exponent) (g .exponent) p (exponent-sound g (h .0))) (shared-fine f m p (h .1))
 
   pub taken-sound : (f : Factor) (m : List Factor) (e : Exponent) → faulty (f .exponent) ≡ false → some factorFault m ≡ false → sharedWith cmp f m ≡ Takes e → faulty e ≡ false
-  taken-sound f m e p h t = subst Fine t (shared-fine f m p (all-kept m h))
+  taken-sound f m e p h t = subst Fine t (shared-fine f m p (each-faultless factorFault m h))
 
   common-all : (l m : List Factor) → All Kept l → All Kept m → All Kept (common cmp l m)
   unfolding common
@@ -120,7 +92,7 @@ module _ (cmp : Atom → Atom → Ordering) where
   common-all (f ∷ l) m h k = with-kept _ f (common cmp l m) (shared-fine f m (exponent-sound f (h .0)) k) (h .0) (common-all l m (h .1) k)
 
   pub common-kept : (l m : List Factor) → some factorFault l ≡ false → some factorFault m ≡ false → some factorFault (common cmp l m) ≡ false
-  common-kept l m h k = kept-all (common cmp l m) (common-all l m (all-kept l h) (all-kept m k))
+  common-kept l m h k = none-faulty factorFault (common cmp l m) (common-all l m (each-faultless factorFault l h) (each-faultless factorFault m k))
 
   pub common-short : (l m : List Factor) → length (common cmp l m) ≤ length l
   unfolding common
@@ -145,7 +117,7 @@ module _ (cmp : Atom → Atom → Ordering) where
       (holds-imp (lessen-all m (c ∷ cs) (h .1)) λ r k. (h .0, k))
 
   pub lessen-kept : (l cs : List Factor) → some factorFault l ≡ false → Holds (λ r. some factorFault r ≡ false) (lessen cmp l cs)
-  lessen-kept l cs h = holds-imp (lessen-all l cs (all-kept l h)) kept-all
+  lessen-kept l cs h = holds-imp (lessen-all l cs (each-faultless factorFault l h)) (none-faulty factorFault)
 
   unless-short : (t : Bool) (f : Factor) (l : List Factor) (n : ℕ) → length l ≤ n → length (unless t f l) ≤ suc n
   unfolding unless

@@ -33,12 +33,12 @@ units-not-fraction e = let z : _≡_ {A = ℕ} 0 1 = cc in omega arith
 
 -- ---- the ranged steps: if S holds of RANGE, they refuse only with what S holds of
 module _ (S : Refusal → Type 0) (range : S RANGE) where
-  sum-only : {A : Type 0} (term : A → Outcome Exponent) → ((a : A) → Only S (term a)) → (s : Exponent) (l : List A) → Only S (sum? term s l)
+  pub sum-only : {A : Type 0} (term : A → Outcome Exponent) → ((a : A) → Only S (term a)) → (s : Exponent) (l : List A) → Only S (sum? term s l)
   unfolding sum?
   sum-only term h s [] = fine
   sum-only term h s (a ∷ l) = only-bind _ _ (h a) λ t _. only-bind _ _ (ranged-only S range _) λ u _. sum-only term h u l
 
-  each-only : {A B : Type 0} (f : A → Outcome B) → ((a : A) → Only S (f a)) → (l : List A) → Only S (each f l)
+  pub each-only : {A B : Type 0} (f : A → Outcome B) → ((a : A) → Only S (f a)) → (l : List A) → Only S (each f l)
   unfolding each
   each-only f h [] = fine
   each-only f h (a ∷ l) = only-bind _ _ (h a) λ b _. only-map _ (each-only f h l)

@@ -1,13 +1,12 @@
 -- No list that a call answers has more than 16 factors.
 use mathlib.Core.Bool.{Bool, true, false}
-use mathlib.Core.List.{List, [], _∷_, _++_, map as along}
-use Prim.Native.Nat.{ℕ, suc, _+_, _≤_}
+use mathlib.Core.List.{List, _++_, map as along}
+use Prim.Native.Nat.{ℕ, _+_, _≤_}
 use native.Mathlib.Omega.{arith}
 use borrow.Author.Tests.{ltb-false}
 use lib.Dec.{ltb}
 use lib.ListN.{length, length-append, length-take}
 use Rattle.exponents.specs.Outcome.{Outcome, SHAPE, UNKNOWN, ROOM, map, bind, each}
-use Rattle.exponents.specs.Fractions.{nought, same}
 use Rattle.exponents.specs.declared.Exponent.{Exponent}
 use Rattle.exponents.proofs.Holds.{Holds, held, holds-any, holds-imp, holds-unless, holds-map, holds-bind}
 use Rattle.exponents.proofs.InRange.{or-left}
@@ -16,16 +15,15 @@ use Rattle.units.specs.declared.Factors.{Factors}
 use Rattle.units.specs.declared.Rows.{Rows}
 use Rattle.units.specs.Lists as units
 use Rattle.units.specs.Lists.{listOf, factorFault, some, checked, both, joined, inverted}
-use Rattle.tables.specs.declared.Slot.{Slot}
 use Rattle.tables.specs.Scale.{binary64, scale, sizeBy}
 use Rattle.tables.specs.Rows.{Facts, pick, scaleAt, rowsOf}
 use Rattle.tables.proofs.Each.{each-holds, along-length}
 use Rattle.tables.proofs.Slotting.{slots-few}
 use Rattle.canonical.specs.Order.{orderIn}
-use Rattle.canonical.specs.Canonical.{unless, nonzero}
 use Rattle.canonical.proofs.Judged.{canon-short}
 use Rattle.reduction.specs.Reduction as reductions
-use Rattle.reduction.specs.Reduction.{baseFactors, reduced}
+use Rattle.reduction.specs.Reduction.{reduced}
+use Rattle.reduction.proofs.Reducing.{reduced-short}
 use Rattle.lists.specs.Opening.{table, baseRows}
 use Rattle.lists.specs.Calls as lists
 use Rattle.values.specs.Calls as values
@@ -59,20 +57,10 @@ joined-few fs gs = holds-unless _ ROOM λ e. held {a = fs ++ gs} (omega (arith, 
 pub each-few : (f : Factor → Outcome Factor) (fs : List Factor) → Few fs → Holds Few (each f fs)
 each-few f fs h = holds-imp (each-holds {R = λ _ _. Unit {0}} f (λ a. holds-any (f a)) fs) λ m s. omega (arith, along-length s)
 
-reduced-short : (ss : List Slot) (es : List Exponent) → length (reduced ss es) ≤ length ss
-unfolding reduced baseFactors nonzero unless
-reduced-short [] es = omega arith
-reduced-short (s ∷ ss) [] = omega arith
-reduced-short (s ∷ ss) (e ∷ es) = kept (same e nought) _ (reduced ss es) (reduced-short ss es)
-  where
-    kept : (t : Bool) (f : Factor) (l : List Factor) → length l ≤ length ss → length (unless t f l) ≤ suc (length ss)
-    kept true f l h = omega arith
-    kept false f l h = omega arith
-
 module _ (t : Rows) where
   -- what a call does once its table is admitted and its lists are checked
   module _ {A : Type 0} {P : A → Type 0} where
-    of-one : (l : Factors) (W : List Facts → List Factor → Outcome A) → ((ks : List Facts) (fs : List Factor) → Few fs → Holds P (W ks fs)) → Holds P (bind (table t) (λ ks. bind (checked (length ks) l) (W ks)))
+    pub of-one : (l : Factors) (W : List Facts → List Factor → Outcome A) → ((ks : List Facts) (fs : List Factor) → Few fs → Holds P (W ks fs)) → Holds P (bind (table t) (λ ks. bind (checked (length ks) l) (W ks)))
     of-one l W h = holds-bind _ (holds-any (table t)) λ ks _. holds-bind _ (checked-few (length ks) l) (h ks)
 
     pub of-two : (a b : Factors) (W : List Facts → List Factor × List Factor → Outcome A) → ((ks : List Facts) (fs gs : List Factor) → Few fs → Few gs → Holds P (W ks (fs, gs)))

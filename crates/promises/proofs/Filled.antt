@@ -10,14 +10,17 @@ use Rattle.exponents.specs.Outcome.{Outcome, given, DIVZERO, ZERONEG, map}
 use Rattle.exponents.specs.declared.Exponent.{Exponent}
 use Rattle.exponents.proofs.Holds.{Holds, held, holds-any, holds-unless, holds-map, holds-bind}
 use Rattle.floats.specs.Values.{isZero}
+use Rattle.units.specs.declared.Candidates.{Candidates}
 use Rattle.units.specs.declared.Factor.{Factor}
 use Rattle.units.specs.declared.Factors.{Factors}
 use Rattle.units.specs.declared.Quantity.{Quantity}
 use Rattle.units.specs.declared.Rows.{Rows}
 use Rattle.units.specs.Lists.{pack, inverted}
 use Rattle.tables.specs.Scale.{binary64, sizeBy}
-use Rattle.tables.specs.Rows.{pick, scaleAt}
+use Rattle.tables.specs.Rows.{pick, scaleAt, rowsOf}
+use Rattle.tables.proofs.Slotting.{slots-few}
 use Rattle.canonical.specs.Order.{Atom, orderIn}
+use Rattle.lists.specs.Opening.{baseRows}
 use Rattle.lists.specs.Calls as lists
 use Rattle.conversion.specs.Conversion.{convert}
 use Rattle.values.specs.Quantities.{made, fresh}
@@ -27,7 +30,13 @@ use Rattle.sums.specs.Sums.{combined, together, nonzeroSum}
 use Rattle.sums.specs.Calls as sums
 use Rattle.powers.specs.Powers.{raisedTo}
 use Rattle.powers.specs.Calls as powers
-use Rattle.promises.proofs.Factors.{Few, either, mapped, joined-few, each-few, of-two, product-few, reduction-few, listed-few}
+use Rattle.simplification.specs.Rules.{rulesIn}
+use Rattle.simplification.specs.Steps.{Amount, quantityOf}
+use Rattle.simplification.specs.Calls as simplification
+use Rattle.simplification.proofs.Sounding.{simplify-short}
+use Rattle.registry.specs.Calls as registry
+use Rattle.registry.proofs.Upheld.{candidates-short, registered-short}
+use Rattle.promises.proofs.Factors.{Few, either, mapped, joined-few, each-few, of-one, of-two, product-few, reduction-few, listed-few}
 
 abbrev pub Full : Quantity → Type 0
 Full q = length (q .unit .at) ≡ 16
@@ -68,6 +77,22 @@ module _ (t : Rows) (q : Quantity) where
   pub convert-full : (m : Factors) → Holds Full (quantities.convertTo t q m)
   unfolding quantities.convertTo
   convert-full m = of-two t (q .unit) m _ λ ks fs gs h k. mapped (λ v. fresh v gs) (quantities.convertIn t ks fs gs (q .value)) λ v. pack-full gs k
+
+  -- the answer of a step is of at most as many factors
+  amount-full : {o : Outcome Amount} → Holds (λ a. Few (a .1)) o → Holds Full (map quantityOf o)
+  amount-full h = holds-map quantityOf h λ a k. pack-full (a .1) k
+
+  pub simplify-full : Holds Full (simplification.fullSimplify t q)
+  unfolding simplification.fullSimplify
+  simplify-full = of-one t (q .unit) _ λ ks fs h.
+      either (Holds Full) (q .mark) _ (given (made false (q .value) fs)) (amount-full (simplify-short (rulesIn t ks) (q .value) fs h)) (held (pack-full fs h))
+
+  pub with-full : (c : Candidates) → Holds Full (registry.fullSimplifyWith t q c)
+  unfolding registry.fullSimplifyWith
+  with-full c = of-one t (q .unit) _ λ ks fs h. holds-bind _ (candidates-short (length ks) c) λ ms k.
+      either (Holds Full) (q .mark) _ (given (made false (q .value) fs))
+      (amount-full (holds-bind _ (simplify-short (rulesIn t ks) (q .value) fs h) λ a j. registered-short (rulesIn t ks) a (baseRows t) ms (slots-few (rowsOf t)) k j))
+      (held (pack-full fs h))
 
   module _ (p : Quantity) where
     pub multiply-full : Holds Full (values.multiply t q p)

@@ -1,6 +1,9 @@
 pub mod Bench
 pub mod Conversion
+pub mod Products
 pub mod Factors
 pub mod Filled
-pub mod Products
 pub mod Sizes
+pub mod Unadmitted
+pub mod Simplification
+pub mod Candidates

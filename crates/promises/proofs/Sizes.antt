@@ -19,7 +19,7 @@ use Rattle.lists.specs.Calls as lists
 use Rattle.quantities.specs.Calls as quantities
 use Rattle.wire.specs.Bytes.{bytesOf}
 use Rattle.wire.specs.Records.{quantityBytes, flag}
-use Rattle.wire.specs.Arguments.{prefixFrom, exponentFrom, listFrom, quantityFrom, tableFrom}
+use Rattle.wire.specs.Arguments.{prefixFrom, exponentFrom, listFrom, quantityFrom, tableFrom, candidatesFrom}
 use Rattle.wire.proofs.Digits.{length-bytesOf}
 use Rattle.wire.proofs.Stored.{length-exponentBytes, length-listBytes, length-quantityBytes}
 use Rattle.replies.specs.Replies.{sent, orderNumber, unitBytes, valueBytes, reducedBytes, verdictBytes, orderBytes, multipleBytes}
@@ -73,7 +73,7 @@ data Each : List Call → Type 0 where
   _and_ : {c : Call} {l : List Call} → Brief c → Each l → Each (c ∷ l)
 
 calls-brief : Each calls
-unfolding calls requests.prefixFactor requests.product requests.quotient requests.listPower requests.canonical requests.sameList requests.reduceList requests.reduce requests.convertTo requests.add requests.subtract requests.multiply requests.checkedDiv requests.checkedPower requests.negate requests.magnitude requests.equal requests.compare requests.smallerUnit requests.isMultipleOf requests.noSimplify verdictBytes orderBytes
+unfolding calls requests.prefixFactor requests.product requests.quotient requests.listPower requests.canonical requests.sameList requests.reduceList requests.reduce requests.convertTo requests.add requests.subtract requests.multiply requests.checkedDiv requests.checkedPower requests.negate requests.magnitude requests.equal requests.compare requests.smallerUnit requests.isMultipleOf requests.fullSimplify requests.fullSimplifyWith requests.noSimplify verdictBytes orderBytes
 calls-brief =
     (λ p _ _. sized valueBytes 8 (omega arith) value-sized (prefixFactor (prefixFrom p)))
     and (λ t a b. unit-short (factors.product-few (tableFrom t) (listFrom a) (listFrom b)))
@@ -95,6 +95,8 @@ calls-brief =
     and (λ t a b. number-short orderNumber (quantities.compare (tableFrom t) (quantityFrom a) (quantityFrom b)))
     and (λ t a b. unit-short (factors.smaller-few (tableFrom t) (listFrom a) (listFrom b)))
     and (λ t a b. sized multipleBytes 12 (omega arith) multiple-sized (lists.multiple (tableFrom t) (listFrom a) (listFrom b)))
+    and (λ t a _. quantity-short (filled.simplify-full (tableFrom t) (quantityFrom a)))
+    and (λ t a b. quantity-short (filled.with-full (tableFrom t) (quantityFrom a) (candidatesFrom b)))
     and (λ t a _. quantity-short (filled.unmarked-full (tableFrom t) (quantityFrom a)))
     and done
 

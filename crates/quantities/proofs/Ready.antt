@@ -78,7 +78,8 @@ module _ (t : Rows) (a b : Factors) (x : Opened) (e : x ≡ openedOf (baseRows t
 abbrev pub Converts : Float → Items → Items → ℕ → Converted → Type 0
 Converts y l m n c = (v : View) (fs gs : List Factor) → l ≡ packItems v fs → m ≡ packItems v gs → length fs ≤ 16 → length gs ≤ 16 → n ≤ 16 → some factorFault fs ≡ false → some factorFault gs ≡ false → c ≡ convertedOf (convert (byPlace v) (viewBases v n) binary64 (sizeBy (v .scale)) fs gs y)
 
-no-items : (v : View) → packed [] ≡ packItems v []
+-- the empty list, as code holds it
+pub no-items : (v : View) → packed [] ≡ packItems v []
 unfolding packed packItems
 no-items v = refl
 

@@ -89,11 +89,15 @@ zip-short [] es = omega arith
 zip-short (s ∷ ss) [] = omega arith
 zip-short (s ∷ ss) (e ∷ es) = omega (arith, zip-short ss es)
 
--- no more than the base rows met
-pub reduced-room : (at : List Slot) (es : List Exponent) (i : ℕ) (o : Factors) → i ≤ length at → i < 16 → o ≡ pack (reduced (take i at) es) → o .len < 16
+-- no more than the base rows
+pub reduced-short : (ss : List Slot) (es : List Exponent) → length (reduced ss es) ≤ length ss
 unfolding reduced
+reduced-short ss es = omega (arith, nonzero-short (baseFactors ss es), zip-short ss es)
+
+-- than those met
+pub reduced-room : (at : List Slot) (es : List Exponent) (i : ℕ) (o : Factors) → i ≤ length at → i < 16 → o ≡ pack (reduced (take i at) es) → o .len < 16
 reduced-room at es i o h k e =
-    omega (arith, ap (λ (o : Factors). o .len) e ∙ len-pack (nonzero (baseFactors (take i at) es)), nonzero-short (baseFactors (take i at) es), zip-short (take i at) es, length-take-le i at h)
+    omega (arith, ap (λ (o : Factors). o .len) e ∙ len-pack (reduced (take i at) es), reduced-short (take i at) es, length-take-le i at h)
 
 pub reduced-end : (slots : Slots) (es : List Exponent) (i : ℕ) (o : Factors) → i ≡ slots .len → o ≡ pack (reduced (take i (slots .at)) es) → o ≡ pack (reduced (take (slots .len) (slots .at)) es)
 reduced-end slots es i o n e = e ∙ ap (λ i. pack (reduced (take i (slots .at)) es)) n

@@ -118,6 +118,15 @@ pub fn base_of(l: Items, n: usize) -> Exps
     finished(p, n)
 }
 
+// The base exponents of one factor.
+pub fn base_of_item(it: Item, n: usize) -> Exps
+    ensures { λ r. ⌜ ((v : View) (f : Factorᵛ) → it ≡ itemOf v f → isFaulty (f .exponent) ≡ false → n ≤ 16 → r ≡ expsOf (base (viewBases v n) (f ∷ []))) ⌝ }
+{
+    let none = none_yet(n);
+    let p = with_factor(none, it);
+    finished(p, n)
+}
+
 // The base exponents of l and then m, joined: a conversion's own list over its common factors is such a pair.
 pub fn base_exponents(l: Items, m: Items, n: usize) -> Exps
     ensures { λ r. ⌜ ((v : View) (fs gs : List Factorᵛ) → l ≡ packItems v fs → m ≡ packItems v gs → length fs ≤ 16 → length gs ≤ 16 → n ≤ 16 → some factorFault (fs ++ gs) ≡ false → r ≡ expsOf (base (viewBases v n) (fs ++ gs))) ⌝ }

@@ -21,7 +21,7 @@ pub enum Multiple {
 }
 
 // The place of the first that isn't zero, 16 where all are.
-fn first_base(a: [Exponent; 16]) -> usize
+pub fn first_base(a: [Exponent; 16]) -> usize
     ensures { λ r. ⌜ r ≡ firstBase a ⌝ }
 {
     let none = Exponent { num: 0, den: 1 };
@@ -37,7 +37,7 @@ fn first_base(a: [Exponent; 16]) -> usize
 }
 
 // y q, where q keeps its rule. A zero y costs nothing.
-fn multiplied(y: Exponent, q: Exponent) -> Fraction
+pub fn multiplied(y: Exponent, q: Exponent) -> Fraction
     ensures { λ r. ⌜ (isFaulty q ≡ false → r ≡ fractionOf (mul? y q)) ⌝ }
 {
     let none = Exponent { num: 0, den: 1 };

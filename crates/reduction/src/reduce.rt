@@ -45,7 +45,7 @@ fn base_factor(s: Slot, e: Exponent) -> Factor
 }
 
 // The nonzero exponents as base factors in rank order.
-fn base_factors(slots: Slots, e: [Exponent; 16]) -> Factors
+pub fn base_factors(slots: Slots, e: [Exponent; 16]) -> Factors
     ensures { λ r. ⌜ (slots .len ≤ 16 → r ≡ pack (reduced (take (slots .len) (slots .at)) e)) ⌝ }
 {
     let m = super::bases::capped(slots.len);

@@ -8,8 +8,10 @@ use Rattle.values.specs.Calls as values
 use Rattle.quantities.specs.Calls as quantities
 use Rattle.sums.specs.Calls as sums
 use Rattle.powers.specs.Calls as powers
+use Rattle.simplification.specs.Calls as simplification
+use Rattle.registry.specs.Calls as registry
 use Rattle.wire.specs.Records.{quantityBytes}
-use Rattle.wire.specs.Arguments.{prefixFrom, exponentFrom, listFrom, quantityFrom, tableFrom}
+use Rattle.wire.specs.Arguments.{prefixFrom, exponentFrom, listFrom, quantityFrom, tableFrom, candidatesFrom}
 use Rattle.replies.specs.Replies.{unitBytes, valueBytes, reducedBytes, verdictBytes, orderBytes, multipleBytes}
 
 unfoldable pub prefixFactor : List ℕ → Outcome (List ℕ)
@@ -79,3 +81,9 @@ module _ (t : List ℕ) where
 
   unfoldable pub compare : List ℕ → List ℕ → Outcome (List ℕ)
   compare q p = map orderBytes (quantities.compare (tableFrom t) (quantityFrom q) (quantityFrom p))
+
+  unfoldable pub fullSimplify : List ℕ → Outcome (List ℕ)
+  fullSimplify q = map quantityBytes (simplification.fullSimplify (tableFrom t) (quantityFrom q))
+
+  unfoldable pub fullSimplifyWith : List ℕ → List ℕ → Outcome (List ℕ)
+  fullSimplifyWith q c = map quantityBytes (registry.fullSimplifyWith (tableFrom t) (quantityFrom q) (candidatesFrom c))

@@ -1,5 +1,5 @@
 // Every call from bytes to bytes: the table and the arguments as bytes, the answer into lent room.
-// The calls of the byte form with the codes 1 to 20 and 23, under the names of the byte form.
+// The calls of the byte form, under its names.
 ghost use Rattle.replies.specs.Replies.{Replied};
 ghost use Rattle.requests.specs.Calls as spec;
 use replies::Reply;
@@ -188,4 +188,21 @@ pub fn compare(table: &[u8], quantity: &[u8], other: &[u8], out: &mut [u8]) -> R
     let q = arguments::quantity(quantity);
     let p = arguments::quantity(other);
     replies::order(quantities::comparisons::compare(t, q, p), out)
+}
+
+pub fn full_simplify(table: &[u8], quantity: &[u8], out: &mut [u8]) -> Reply
+    ensures { λ r. ⌜ Replied (now (out .entry)) (spec.fullSimplify (now (table .entry)) (now (quantity .entry))) r (now (out .exit)) ⌝ }
+{
+    let t = arguments::table(table);
+    let q = arguments::quantity(quantity);
+    replies::quantity(simplification::full_simplify(t, q), out)
+}
+
+pub fn full_simplify_with(table: &[u8], quantity: &[u8], candidates: &[u8], out: &mut [u8]) -> Reply
+    ensures { λ r. ⌜ Replied (now (out .entry)) (spec.fullSimplifyWith (now (table .entry)) (now (quantity .entry)) (now (candidates .entry))) r (now (out .exit)) ⌝ }
+{
+    let t = arguments::table(table);
+    let q = arguments::quantity(quantity);
+    let c = arguments::candidates(candidates);
+    replies::quantity(registry::full_simplify_with(t, q, c), out)
 }

@@ -43,6 +43,8 @@ calls =
     ∷ three 18 requests.compare
     ∷ three 19 requests.smallerUnit
     ∷ three 20 requests.isMultipleOf
+    ∷ two 21 requests.fullSimplify
+    ∷ three 22 requests.fullSimplifyWith
     ∷ two 23 requests.noSimplify
     ∷ []
 

@@ -64,8 +64,8 @@ const ARITIES: [u32; 24] = [
     3,
     3,
     3,
-    0,
-    0,
+    2,
+    3,
     2,
 ];
 
@@ -160,6 +160,8 @@ fn call(code: u32, a: &[u8], b: &[u8], c: &[u8], out: &mut [u8]) -> Reply
         18 => requests::compare(a, b, c, out),
         19 => requests::smaller_unit(a, b, c, out),
         20 => requests::is_multiple_of(a, b, c, out),
+        21 => requests::full_simplify(a, b, out),
+        22 => requests::full_simplify_with(a, b, c, out),
         23 => requests::no_simplify(a, b, out),
         _ => replies::refused(SHAPE),
     }

@@ -65,6 +65,12 @@ smaller-unit-requires c κs = search needs
 is-multiple-of-requires : tie.Need-is-multiple-of-requires
 is-multiple-of-requires c κs = search needs
 
+full-simplify-requires : tie.Need-full-simplify-requires
+full-simplify-requires c κs = search needs
+
+full-simplify-with-requires : tie.Need-full-simplify-with-requires
+full-simplify-with-requires c κs = search needs
+
 no-simplify-requires : tie.Need-no-simplify-requires
 no-simplify-requires c κs = search needs
 
@@ -216,11 +222,25 @@ same-length-21 c = search needs
 
 returns-21 : tie.Need-returns-21
 unfolding callOf look calls
-returns-21 c = rw (c .before .before .before .before .match .keys21) (c .before .before .no-simplify .ensures)
+returns-21 c = rw (c .before .before .before .before .match .keys21) (c .before .before .full-simplify .ensures)
+
+same-length-22 : tie.Need-same-length-22
+same-length-22 c = search needs
 
 returns-22 : tie.Need-returns-22
+unfolding callOf look calls
+returns-22 c = rw (c .before .before .before .before .match .keys22) (c .before .before .full-simplify-with .ensures)
+
+same-length-23 : tie.Need-same-length-23
+same-length-23 c = search needs
+
+returns-23 : tie.Need-returns-23
+unfolding callOf look calls
+returns-23 c = rw (c .before .before .before .before .match .keys23) (c .before .before .no-simplify .ensures)
+
+returns-24 : tie.Need-returns-24
 unfolding calls
-returns-22 c = replied-none _ _ _ _ _ _ (c .before .match .rest) (c .refused .ensures .0) (c .refused .ensures .1)
+returns-24 c = replied-none _ _ _ _ _ _ (c .before .match .rest) (c .refused .ensures .0) (c .refused .ensures .1)
 
 pub call-spec : {M : Type 1} → statement M
 call-spec =
@@ -246,6 +266,8 @@ call-spec =
     compare-requires
     smaller-unit-requires
     is-multiple-of-requires
+    full-simplify-requires
+    full-simplify-with-requires
     no-simplify-requires
     refused-requires
     same-length
@@ -290,4 +312,8 @@ call-spec =
     returns-20
     same-length-21
     returns-21
-    returns-22)
+    same-length-22
+    returns-22
+    same-length-23
+    returns-23
+    returns-24)

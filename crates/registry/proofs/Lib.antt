@@ -1,0 +1,10 @@
+pub mod GivenLists
+pub mod Looking
+pub mod Tested
+pub mod Choosing
+pub mod BaseSlots
+pub mod BaseList
+pub mod Basis
+pub mod Settling
+pub mod Answering
+pub mod Upheld

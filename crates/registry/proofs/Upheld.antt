@@ -1,0 +1,174 @@
+-- What the registry form makes of what is left (01, "Simplification") keeps its base exponents, a zero's too, is refused by RANGE and FRACTION alone and has at most 16 factors: a candidate is taken only if its base exponents are those of what is left, and the single base unit has them.
+use mathlib.Core.Path.{_≡_, refl, sym}
+use mathlib.Core.Bool.{Bool, true, false, _&&_, true≢false}
+use mathlib.Core.List.{List, [], _∷_}
+use Prim.Native.Nat.{ℕ, _≤_}
+use native.Mathlib.Omega.{arith}
+use lib.Dec.{ltb, eqb}
+use lib.Ieee.{Float}
+use lib.ListN.{length}
+use Rattle.exponents.specs.Outcome.{Refusal, RANGE, FRACTION, Outcome, given, map}
+use Rattle.exponents.specs.declared.Exponent.{Exponent}
+use Rattle.exponents.proofs.Holds.{Holds, held, Only, fine, take-out, holds-any, holds-eq, holds-imp, holds-map, holds-bind, only-map, only-bind}
+use Rattle.exponents.proofs.Rationals.{value}
+use Rattle.floats.specs.Power.{one}
+use Rattle.units.specs.declared.Factor.{Factor}
+use Rattle.units.specs.declared.Candidates.{Candidates}
+use Rattle.units.specs.declared.Rows.{Rows}
+use Rattle.tables.specs.declared.Slot.{Slot}
+use Rattle.tables.specs.Lists.{base}
+use Rattle.tables.specs.Rows.{pick, Facts}
+use Rattle.tables.specs.Scale.{binary64, scale}
+use Rattle.tables.proofs.Places.{All}
+use Rattle.tables.proofs.Each.{all-imp, along-all}
+use Rattle.tables.proofs.Total.{Total}
+use Rattle.canonical.specs.Canonical.{sameAll}
+use Rattle.canonical.proofs.Bases.{Agree}
+use Rattle.canonical.proofs.Total.{orderIn-total}
+use Rattle.reduction.specs.Reduction.{reduced}
+use Rattle.reduction.proofs.Reducing.{reduced-short}
+use Rattle.lists.specs.Opening.{table, baseRows}
+use Rattle.lists.specs.Calls.{basesIn}
+use Rattle.conversion.proofs.Refusals.{base-only, fraction-only, scale-is}
+use Rattle.simplification.specs.Rules.{Rules, rulesIn, convertBy}
+use Rattle.simplification.specs.Steps.{Amount}
+use Rattle.simplification.proofs.Sounding.{every, checked-passed}
+use Rattle.simplification.proofs.Agreed.{agree-self, agree-sym, same-agree}
+use Rattle.simplification.proofs.NeverUnits.{either-only, agreeing-only}
+use Rattle.simplification.proofs.Kept.{admits}
+use Rattle.registry.specs.Registry.{candidateLists, nearOne, isSingle, Turn, wins, stays, after, fitting, turn, chosen, settled, registered}
+use Rattle.registry.proofs.Basis.{reduced-agrees}
+use Rattle.registry.proofs.GivenLists.{candidates-hold}
+
+when : {A : Type 0} {P : A → Type 0} {a b : Outcome A} (t : Bool) → (t ≡ true → Holds P a) → Holds P b → Holds P (pick t a b)
+when true f h = f refl
+when false f h = h
+
+-- what a turn leaves
+abbrev left : Turn → Amount
+left (wins a) = a
+left (stays b) = b
+
+module _ (R : Rules) (now : Amount) where
+  -- ---- P holds of what is answered, if it holds of what may be taken
+  module _ (P : List Factor → Type 0) where
+    -- the candidate m is taken only if P holds of it
+    abbrev Takes : List Exponent → Float → List Factor → Type 0
+    Takes xs s m = Holds (λ fits. fits ≡ true → P m) (fitting R (length (now .1)) xs s m)
+
+    module _ (xs : List Exponent) (s : Float) where
+      turn-has : (best : Amount) (m : List Factor) → Takes xs s m → P (best .1) → Holds (λ w. P (left w .1)) (turn R xs s now best m)
+      unfolding turn
+      turn-has best m h b =
+          holds-bind _ h λ fits f.
+          when fits (λ e. holds-map _ (holds-any (convertBy R (now .1) m (now .0))) λ x _. taken x (f e) (eqb (length m) 1) (ltb (length m) (length (best .1)))) (held b)
+        where
+          taken : (x : Float) → P m → (only fewer : Bool) → P (left (pick only (wins (x, m)) (stays (pick fewer (x, m) best))) .1)
+          taken x p true fewer = p
+          taken x p false true = p
+          taken x p false false = b
+
+      after-has : (w : Turn) (next : Amount → Outcome Amount) → P (left w .1) → ((b : Amount) → P (b .1) → Holds (λ a. P (a .1)) (next b)) → Holds (λ a. P (a .1)) (after w next)
+      unfolding after
+      after-has (wins a) next p f = held p
+      after-has (stays b) next p f = f b p
+
+      chosen-has : (best : Amount) (ms : List (List Factor)) → All (Takes xs s) ms → P (best .1) → Holds (λ a. P (a .1)) (chosen R xs s now best ms)
+      unfolding chosen
+      chosen-has best [] h b = held b
+      chosen-has best (m ∷ ms) h b = holds-bind _ (turn-has best m (h .0) b) λ w p. after-has w _ p λ c q. chosen-has c ms (h .1) q
+
+    registered-has : (ss : List Slot) (ms : List (List Factor)) → P (now .1) →
+        ((xs : List Exponent) → base (R .bases) (now .1) ≡ given xs → P (reduced ss xs) × ((s : Float) → All (Takes xs s) ms)) →
+        Holds (λ a. P (a .1)) (registered R ss ms now)
+    unfolding registered settled
+    registered-has ss ms p f =
+        when (ltb 1 (length (now .1)))
+        (λ _.
+        holds-bind _ (holds-eq (base (R .bases) (now .1))) λ xs e.
+        holds-bind _ (holds-any (scale binary64 (R .size) (now .1))) λ s _.
+        when (isSingle (reduced ss xs) && nearOne s)
+        (λ _. holds-map _ (holds-any (convertBy R (now .1) (reduced ss xs) (now .0))) λ x _. f xs e .0)
+        (chosen-has xs s now ms (f xs e .1 s) p))
+        (held p)
+
+  -- ---- lists of at most 16 factors
+  pub registered-short : (ss : List Slot) (ms : List (List Factor)) → length ss ≤ 16 → All (λ m. length m ≤ 16) ms → length (now .1) ≤ 16 → Holds (λ a. length (a .1) ≤ 16) (registered R ss ms now)
+  registered-short ss ms few h n =
+      registered-has (λ m. length m ≤ 16) ss ms n λ xs _.
+      (omega (arith, reduced-short ss xs), λ s. all-imp ms (λ m k. holds-imp (holds-any (fitting R (length (now .1)) xs s m)) λ _ _ _. k) h)
+
+  -- ---- base exponents: xs are those of what is left
+  module _ (xs : List Exponent) (e : base (R .bases) (now .1) ≡ given xs) where
+    pub fitting-agrees : (s : Float) (m : List Factor) → Holds (λ fits. fits ≡ true → Agree value (R .bases) (now .1) m) (fitting R (length (now .1)) xs s m)
+    unfolding fitting
+    fitting-agrees s m =
+        when (ltb (length m) (length (now .1)))
+        (λ _.
+        holds-bind _ (holds-eq (base (R .bases) m)) λ ys q.
+        when (sameAll ys xs)
+        (λ h. holds-map _ (holds-any (scale binary64 (R .size) m)) λ u _ _. agree-sym value (R .bases) m (now .1) (same-agree value (R .bases) m (now .1) ys xs q e h))
+        none)
+        none
+      where
+        none : Holds (λ fits. fits ≡ true → Agree value (R .bases) (now .1) m) (given false)
+        none = held λ h. absurd (true≢false (sym h))
+
+    -- ---- refused by RANGE and FRACTION alone
+    module _ (O : Total (R .order)) (S : Refusal → Type 0) (range : S RANGE) (fraction : S FRACTION) (s : Float) where
+      fitting-only : (n : ℕ) (m : List Factor) → Only S (fitting R n xs s m)
+      unfolding fitting
+      fitting-only n m =
+          either-only S (ltb (length m) n)
+          (only-bind _ _ (base-only S range (R .bases) m) λ ys _.
+          either-only S (sameAll ys xs) (only-map _ (fraction-only S fraction (scale-is binary64 (R .size) one m))) fine)
+          fine
+
+      turn-only : (best : Amount) (m : List Factor) → Only S (turn R xs s now best m)
+      unfolding turn
+      turn-only best m = only-bind _ _ (fitting-only (length (now .1)) m) λ fits q. go fits (take-out (fitting-agrees s m) q)
+        where
+          go : (fits : Bool) → (fits ≡ true → Agree value (R .bases) (now .1) m) →
+              Only S (pick fits (map (λ x. pick (eqb (length m) 1) (wins (x, m)) (stays (pick (ltb (length m) (length (best .1))) (x, m) best))) (convertBy R (now .1) m (now .0))) (given (stays best)))
+          go true a = only-map _ (agreeing-only R O S range fraction (now .1) m (now .0) (a refl))
+          go false a = fine
+
+      after-only : (w : Turn) (next : Amount → Outcome Amount) → ((b : Amount) → Only S (next b)) → Only S (after w next)
+      unfolding after
+      after-only (wins a) next f = fine
+      after-only (stays b) next f = f b
+
+      chosen-only : (best : Amount) (ms : List (List Factor)) → Only S (chosen R xs s now best ms)
+      unfolding chosen
+      chosen-only best [] = fine
+      chosen-only best (m ∷ ms) = only-bind _ _ (turn-only best m) λ w _. after-only w _ λ b. chosen-only b ms
+
+  -- where the base rows ss are those of the rules
+  module _ (ss : List Slot) (ms : List (List Factor)) (same : (xs : List Exponent) → base (R .bases) (now .1) ≡ given xs → Agree value (R .bases) (now .1) (reduced ss xs)) where
+    pub keeps-by : Holds (λ a. Agree value (R .bases) (now .1) (a .1)) (registered R ss ms now)
+    keeps-by = registered-has (λ m. Agree value (R .bases) (now .1) m) ss ms (agree-self value (R .bases) (now .1)) λ xs e. (same xs e, λ s. every ms (fitting-agrees xs e s))
+
+    pub only-by : Total (R .order) → (S : Refusal → Type 0) → S RANGE → S FRACTION → Only S (registered R ss ms now)
+    unfolding registered settled
+    only-by O S range fraction =
+        either-only S (ltb 1 (length (now .1)))
+        (only-bind _ _ (base-only S range (R .bases) (now .1)) λ xs e.
+        only-bind _ _ (fraction-only S fraction (scale-is binary64 (R .size) one (now .1))) λ s _.
+        either-only S (isSingle (reduced ss xs) && nearOne s)
+        (only-map _ (agreeing-only R O S range fraction (now .1) (reduced ss xs) (now .0) (same xs e)))
+        (chosen-only xs e O S range fraction s now ms))
+        fine
+
+-- ---- in an admitted table, whatever the candidates and the value
+module _ (t : Rows) (ks : List Facts) (k : table t ≡ given ks) (ms : List (List Factor)) (now : Amount) where
+  -- THEOREM: the base exponents of what is left are kept
+  pub registered-keeps : Holds (λ a. Agree value (basesIn t ks) (now .1) (a .1)) (registered (rulesIn t ks) (baseRows t) ms now)
+  registered-keeps = keeps-by (rulesIn t ks) now (baseRows t) ms (reduced-agrees t ks (admits t ks k) (now .1))
+
+  -- THEOREM: refused by RANGE and FRACTION alone
+  pub registered-only : (S : Refusal → Type 0) → S RANGE → S FRACTION → Only S (registered (rulesIn t ks) (baseRows t) ms now)
+  registered-only = only-by (rulesIn t ks) now (baseRows t) ms (reduced-agrees t ks (admits t ks k) (now .1)) (orderIn-total ks)
+
+-- ---- the candidates' lists
+pub candidates-short : (rows : ℕ) (c : Candidates) → Holds (All (λ m. length m ≤ 16)) (candidateLists rows c)
+candidates-short rows c = holds-imp (candidates-hold rows (λ _ m. length m ≤ 16) (λ x. holds-imp (checked-passed rows (x .unit)) λ fs h. h .0) c) λ ms h. along-all (h .1)

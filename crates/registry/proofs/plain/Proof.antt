@@ -1,0 +1,140 @@
+-- `plain` meets its contract. The invariant: the factors before i are handed out with what is known of their rows.
+use borrow.Author.Needs.{needs}
+use mathlib.Core.Path.{_≡_, sym, ap, _∙_}
+use mathlib.Core.List.{List}
+use Prim.Native.Nat.{ℕ, _-_, _≤_, _<_}
+use native.Mathlib.Omega.{arith}
+use lib.ListN.{length, take, getD}
+use lib.Seq.{take-all}
+use Rattle.exponents.specs.Outcome.{given}
+use Rattle.units.specs.declared.Factor.{Factor}
+use Rattle.units.specs.declared.Rows.{Rows}
+use Rattle.units.specs.Lists.{checked}
+use Rattle.tables.specs.Rows.{Facts}
+use Rattle.tables.specs.Items.{itemOf, packItems}
+use Rattle.tables.proofs.Terms.{unmapped, nilFactor, nilKnown}
+use Rattle.resolution.proofs.Resolving.{pack-none}
+use Rattle.registry.specs.Registry.{plainView, Held}
+use Rattle.registry.proofs.GivenLists.{listed, list-long, factor-at, row-there}
+use Rattle.registry.proofs.Looking.{items-more, keyed, plain-item}
+use Rattle.registry.proofs.plain.Statement.{statement}
+use Rattle.registry.proofs.plain.Tie as tie
+
+abbrev Inv-loop : tie.InvT-loop
+Inv-loop t l n o₀ i₀ o i =
+    (i ≤ n)
+    × (n ≤ 16)
+    × ((tb : Rows) (ks : List Facts) (fs : List Factor) → Held tb ks t → checked (length ks) l ≡ given fs → o ≡ packItems (plainView ks) (take i fs))
+
+abbrev μ-loop : tie.MeasureT-loop
+μ-loop t l n o₀ i₀ o i = n - i
+
+full : (c : tie.Start Inv-loop μ-loop) → length (c .args .t2 .at) ≡ 16
+full c = search (needs, unmapped)
+
+-- the list's length is the number of turns
+turns : (c : tie.After-capped Inv-loop μ-loop) (rows : ℕ) (fs : List Factor) → checked rows (c .before .args .t2) ≡ given fs → length fs ≡ c .capped .result
+turns c rows fs p = list-long (listed p) (full (c .before)) ∙ sym (c .capped .ensures .1 (listed p .short))
+
+-- the factor at place i names a row of the table
+there : (c : tie.In-loop Inv-loop μ-loop) (rows : ℕ) (fs : List Factor) → checked rows (c .before .before .before .before .args .t2) ≡ given fs → getD (c .before .before .before .before .args .t2 .at) (c .before .loop .i) nilFactor .row < rows
+there c rows fs p =
+    let o = c .before in
+    let n = turns (o .before .before) rows fs p in
+    let m = list-long (listed p) (full (o .before .before .before)) in
+    rw (factor-at (listed p) (o .loop .i) nilFactor (omega arith)) (row-there (listed p) (o .loop .i) nilFactor (omega arith))
+
+capped-requires : tie.Need-capped-requires Inv-loop μ-loop
+capped-requires c κs = search needs
+
+no-items-requires : tie.Need-no-items-requires Inv-loop μ-loop
+no-items-requires c κs = search needs
+
+loop-holds : tie.Need-loop-holds Inv-loop μ-loop
+loop-holds c = (omega arith, c .before .capped .ensures .0, λ tb ks fs g p. c .no-items .ensures ∙ pack-none (plainView ks))
+
+mul-f : tie.Need-mul-f Inv-loop μ-loop
+mul-f c = search needs
+
+element-copy-out-f : tie.Need-element-copy-out-f Inv-loop μ-loop
+element-copy-out-f c = search needs
+
+cast-row : tie.Need-cast-row Inv-loop μ-loop
+cast-row c = search needs
+
+no-items-requires-2 : tie.Need-no-items-requires-2 Inv-loop μ-loop
+no-items-requires-2 c κs = search needs
+
+returns : tie.Need-returns Inv-loop μ-loop
+returns c tb ks fs g p = let k = c .before .before .before .before in absurd (omega (arith, there k (length ks) fs p, keyed g .few))
+
+mul-taken : tie.Need-mul-taken Inv-loop μ-loop
+mul-taken c = search needs
+
+element-copy-out-taken : tie.Need-element-copy-out-taken Inv-loop μ-loop
+element-copy-out-taken c = search needs
+
+taken-requires : tie.Need-taken-requires Inv-loop μ-loop
+taken-requires c κs = search needs
+
+mul-t15 : tie.Need-mul-t15 Inv-loop μ-loop
+mul-t15 c = search needs
+
+element-set-from-o : tie.Need-element-set-from-o Inv-loop μ-loop
+element-set-from-o c = search needs
+
+add-o : tie.Need-add-o Inv-loop μ-loop
+add-o c = search needs
+
+add-i : tie.Need-add-i Inv-loop μ-loop
+add-i c = search needs
+
+loop-less : tie.Need-loop-less Inv-loop μ-loop
+loop-less c = omega arith
+
+loop-again : tie.Need-loop-again Inv-loop μ-loop
+loop-again c =
+    let k = c .before in
+    let e = k .before .before .before .before .before in
+    let o = e .before in
+    let a = o .before .before .before .args in
+    let f = getD (a .t2 .at) (o .loop .i) nilFactor in (
+      omega arith,
+      o .loop .inv .1,
+      λ tb ks fs g p.
+          let n = turns (o .before .before) (length ks) fs p in
+          let m = list-long (listed p) (full (o .before .before .before)) in
+          items-more (plainView ks) fs (o .loop .i) nilFactor (o .loop .o) _ (omega arith) (omega arith) (o .loop .inv .2 tb ks fs g p)
+          (plain-item g f nilKnown (k .taken .result) (there e (length ks) fs p) (k .taken .ensures) ∙ ap (itemOf (plainView ks)) (factor-at (listed p) (o .loop .i) nilFactor (omega arith))),
+    )
+
+returns-2 : tie.Need-returns-2 Inv-loop μ-loop
+returns-2 c tb ks fs g p =
+    let o = c .before in
+    let n = turns (o .before .before) (length ks) fs p in
+    o .loop .inv .2 tb ks fs g p ∙ ap (packItems (plainView ks)) (take-all (o .loop .i) fs (omega arith))
+
+pub plain-spec : {M : Type 1} → statement M
+plain-spec =
+    tie.close
+    (tie.spec
+    Inv-loop
+    μ-loop
+    capped-requires
+    no-items-requires
+    loop-holds
+    mul-f
+    element-copy-out-f
+    cast-row
+    no-items-requires-2
+    returns
+    mul-taken
+    element-copy-out-taken
+    taken-requires
+    mul-t15
+    element-set-from-o
+    add-o
+    add-i
+    loop-less
+    loop-again
+    returns-2)

@@ -1,0 +1,2 @@
+pub mod Registry
+pub mod Calls

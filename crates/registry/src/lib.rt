@@ -1,0 +1,353 @@
+// The registry form of simplification (01, "Simplification"): for two or more factors left, the single base unit, then the candidates given.
+// Public: `full_simplify_with`. It asks nothing of its caller.
+ghost use mathlib.Core.Path.{_≡_};
+ghost use mathlib.Core.Bool.{false};
+ghost use mathlib.Core.List.{List};
+ghost use Prim.Native.Nat.{ℕ, _≤_};
+ghost use lib.ListN.{length};
+ghost use Rattle.exponents.specs.Outcome.{given, refusalOf, map};
+ghost use Rattle.exponents.specs.declared.Exponent.{Exponent as Exponentᵛ};
+ghost use Rattle.units.specs.declared.Factor.{Factor as Factorᵛ};
+ghost use Rattle.units.specs.declared.Rows.{Rows as Rowsᵛ};
+ghost use Rattle.units.specs.Lists.{checked, pack};
+ghost use Rattle.tables.specs.Rows.{Facts, packExps};
+ghost use Rattle.tables.specs.Items.{packItems};
+ghost use Rattle.canonical.specs.Equality.{verdictOf};
+ghost use Rattle.lists.specs.Opening.{baseRows};
+ghost use Rattle.quantities.specs.Calls.{convertIn};
+ghost use Rattle.conversion.specs.Conversion.{convertedOf};
+ghost use Rattle.values.specs.Quantities.{fresh, noQuantity, answeredOf};
+ghost use Rattle.simplification.specs.Rules.{rulesIn};
+ghost use Rattle.simplification.specs.Steps.{quantityOf};
+ghost use Rattle.registry.specs.Registry as spec;
+ghost use Rattle.registry.specs.Registry.{plainView, Held, choiceOf};
+ghost use Rattle.registry.specs.Calls as calls;
+use canonical::equality::Verdict;
+use conversion::convert;
+use conversion::convert::Converted;
+use exponents::Exponent;
+use exponents::refusals::SHAPE;
+use reduction::bases;
+use reduction::reduce;
+use tables::Item;
+use tables::Items;
+use tables::Table;
+use tables::scales::Scaled;
+use units::Candidates;
+use units::Factors;
+use units::Quantity;
+use units::Rows;
+use values::answers;
+use values::answers::Answer;
+
+// ---- the candidates given
+
+// The refusal of the candidates, 0 for none: their number, then of each its rank and its list.
+fn candidates_fault(rows: usize, c: Candidates) -> u32
+    ensures { λ r. ⌜ r ≡ refusalOf (spec.candidateLists rows c) ⌝ }
+{
+    let n = c.len;
+    if 32 < n {
+        return SHAPE;
+    }
+    let mut least: u32 = 0;
+    let mut i: usize = 0;
+    while i < n {
+        let x = c.at[i];
+        let rank = x.rank as u32;
+        if rank < least {
+            return SHAPE;
+        }
+        let u = x.unit;
+        let f = units::lists::list_fault(rows, u);
+        if f != 0 {
+            return f;
+        }
+        least = rank + 1;
+        i += 1;
+    }
+    0
+}
+
+// A checked list with what is known of its rows, but for their order: enough for base exponents and scale.
+fn plain(t: Table, l: Factors) -> Items
+    ensures { λ r. ⌜ ((tb : Rowsᵛ) (ks : List Facts) (fs : List Factorᵛ) → Held tb ks t → checked (length ks) l ≡ given fs → r ≡ packItems (plainView ks) fs) ⌝ }
+{
+    let n = bases::capped(l.len);
+    let mut o = tables::no_items();
+    let mut i: usize = 0;
+    while i < n {
+        let f = l.at[i];
+        let row = f.row as usize;
+        if 128 <= row {
+            return tables::no_items();
+        }
+        let k = tables::rows::taken(t.known[row]);
+        let e = k.exps;
+        o.at[i] = Item {
+            exps: e,
+            factor: f,
+            scale: k.scale,
+            place: 0,
+            class: 0,
+            base: k.base,
+        };
+        o.len = i + 1;
+        i += 1;
+    }
+    o
+}
+
+// ---- scales compared
+
+fn near_one(s: f64) -> bool
+    ensures { λ r. ⌜ r ≡ spec.nearOne s ⌝ }
+{
+    floats::abs(s - 1.0) < 1e-9
+}
+
+// The larger of two, a NaN passed over.
+fn larger(x: f64, y: f64) -> f64
+    ensures { λ r. ⌜ r ≡ spec.larger x y ⌝ }
+{
+    if floats::is_nan(x) {
+        return y;
+    }
+    if floats::is_nan(y) | (y < x) { x } else { y }
+}
+
+// Whether the difference is strictly below 1e-9 of the larger magnitude, or that magnitude is zero.
+fn close(s: f64, t: f64) -> bool
+    ensures { λ r. ⌜ r ≡ spec.close s t ⌝ }
+{
+    let m = larger(floats::abs(s), floats::abs(t));
+    floats::is_zero(m) | (floats::abs(s - t) < 1e-9 * m)
+}
+
+// ---- the candidates tested
+
+// Whether the list m has fewer factors than `most`, the base exponents xs and the scale s.
+fn fits(t: Table, m: Factors, most: usize, xs: [Exponent; 16], s: f64) -> Verdict
+    ensures { λ r. ⌜ ((tb : Rowsᵛ) (ks : List Facts) (ms : List Factorᵛ) (es : List Exponentᵛ) → Held tb ks t → checked (length ks) m ≡ given ms → xs ≡ packExps es → length es ≡ length (baseRows tb) → r ≡ verdictOf (spec.fitting (rulesIn tb ks) most es s ms)) ⌝ }
+{
+    if most <= m.len {
+        return Verdict::No;
+    }
+    let l = plain(t, m);
+    let slots = t.slots;
+    let b = bases::base_of(l, slots.len);
+    if b.refusal != 0 {
+        return Verdict::Refused(b.refusal);
+    }
+    let ys = b.at;
+    if !bases::same_exponents(ys, xs) {
+        return Verdict::No;
+    }
+    let y = bases::scale_from(1.0, l);
+    match y {
+        Scaled::Value(u) => if close(s, u) {
+            Verdict::Yes
+        } else {
+            Verdict::No
+        },
+        Scaled::Refused(r) => Verdict::Refused(r),
+    }
+}
+
+// v of the list l in the list m, both checked.
+fn converted(t: Table, v: f64, l: Factors, m: Factors) -> Converted
+    ensures { λ r. ⌜ ((tb : Rowsᵛ) (ks : List Facts) (ls ms : List Factorᵛ) → Held tb ks t → checked (length ks) l ≡ given ls → checked (length ks) m ≡ given ms → r ≡ convertedOf (convertIn tb ks ls ms v)) ⌝ }
+{
+    let o = resolution::resolve(t, l, m);
+    if o.refusal != 0 {
+        return Converted::Refused(o.refusal);
+    }
+    let a = o.a;
+    let b = o.b;
+    let slots = t.slots;
+    convert::convert(v, a, b, slots.len)
+}
+
+// ---- the candidates in turn
+
+// The best so far, or the one that has won; or the number of the refusal.
+pub struct Choice {
+    pub best: Quantity,
+    pub won: bool,
+    pub refusal: u32,
+}
+
+fn chose(best: Quantity, won: bool) -> Choice
+    ensures { λ r. ⌜ r ≡ record { best = best; won = won; refusal = 0 } ⌝ }
+{
+    Choice {
+        best: best,
+        won: won,
+        refusal: 0,
+    }
+}
+
+fn no_choice(refusal: u32) -> Choice
+    ensures { λ r. ⌜ r ≡ record { best = noQuantity refusal .quantity; won = false; refusal = refusal } ⌝ }
+{
+    let a = answers::refused(refusal);
+    let q = a.quantity;
+    Choice {
+        best: q,
+        won: false,
+        refusal: refusal,
+    }
+}
+
+// v of the list m, with clean places past its end.
+fn of_list(v: f64, m: Factors) -> Quantity
+    ensures { λ r. ⌜ ((rows : ℕ) (ms : List Factorᵛ) → checked rows m ≡ given ms → r ≡ fresh v ms) ⌝ }
+{
+    let none = units::lists::empty();
+    if 16 < m.len {
+        return Quantity {
+            unit: none,
+            value: v,
+            mark: true,
+        };
+    }
+    let u = units::lists::append(none, m);
+    Quantity {
+        unit: u,
+        value: v,
+        mark: true,
+    }
+}
+
+// The list m after the best so far. `now` has the base exponents xs and the scale s.
+fn turn(t: Table, now: Quantity, best: Quantity, m: Factors, xs: [Exponent; 16], s: f64) -> Choice
+    ensures { λ r. ⌜ ((tb : Rowsᵛ) (ks : List Facts) (ls bs ms : List Factorᵛ) (es : List Exponentᵛ) → Held tb ks t → checked (length ks) (now .unit) ≡ given ls → best ≡ fresh (best .value) bs → checked (length ks) m ≡ given ms → xs ≡ packExps es → length es ≡ length (baseRows tb) → r ≡ choiceOf (spec.turn (rulesIn tb ks) es s (now .value, ls) (best .value, bs) ms)) ⌝ }
+{
+    let l = now.unit;
+    let f = fits(t, m, l.len, xs, s);
+    match f {
+        Verdict::Yes => {
+            let y = converted(t, now.value, l, m);
+            let Converted::Value(z) = y else {
+                return no_choice(convert::refusal_of(y));
+            };
+            let q = of_list(z, m);
+            if m.len == 1 {
+                return chose(q, true);
+            }
+            let b = best.unit;
+            if m.len < b.len {
+                return chose(q, false);
+            }
+            chose(best, false)
+        }
+        Verdict::No => chose(best, false),
+        Verdict::Refused(r) => no_choice(r),
+    }
+}
+
+// The candidates in turn, the best being `now` at first.
+fn chosen(t: Table, now: Quantity, xs: [Exponent; 16], s: f64, c: Candidates) -> Answer
+    ensures { λ r. ⌜ ((tb : Rowsᵛ) (ks : List Facts) (ls : List Factorᵛ) (ms : List (List Factorᵛ)) (es : List Exponentᵛ) → Held tb ks t → now ≡ fresh (now .value) ls → checked (length ks) (now .unit) ≡ given ls → spec.candidateLists (length ks) c ≡ given ms → xs ≡ packExps es → length es ≡ length (baseRows tb) → r ≡ answeredOf (map quantityOf (spec.chosen (rulesIn tb ks) es s (now .value, ls) (now .value, ls) ms))) ⌝ }
+{
+    let mut o = chose(now, false);
+    let mut i: usize = 0;
+    while i < 32 {
+        if c.len <= i {
+            break;
+        }
+        let x = c.at[i];
+        let m = x.unit;
+        let b = o.best;
+        o = turn(t, now, b, m, xs, s);
+        if o.refusal != 0 {
+            return answers::refused(o.refusal);
+        }
+        if o.won {
+            break;
+        }
+        i += 1;
+    }
+    let q = o.best;
+    Answer {
+        quantity: q,
+        refusal: 0,
+    }
+}
+
+// ---- the call
+
+// Whether a list is one factor to a whole exponent.
+fn is_single(l: Factors) -> bool
+    ensures { λ r. ⌜ ((fs : List Factorᵛ) → l ≡ pack fs → length fs ≤ 16 → r ≡ spec.isSingle fs) ⌝ }
+{
+    let f = l.at[0];
+    let e = f.exponent;
+    (l.len == 1) & (e.den == 1)
+}
+
+// What is left, simplified once more.
+fn registered(t: Table, now: Quantity, c: Candidates) -> Answer
+    ensures { λ r. ⌜ ((tb : Rowsᵛ) (ks : List Facts) (ls : List Factorᵛ) (ms : List (List Factorᵛ)) → Held tb ks t → now ≡ fresh (now .value) ls → checked (length ks) (now .unit) ≡ given ls → spec.candidateLists (length ks) c ≡ given ms → r ≡ answeredOf (map quantityOf (spec.registered (rulesIn tb ks) (baseRows tb) ms (now .value, ls)))) ⌝ }
+{
+    let l = now.unit;
+    if l.len < 2 {
+        return Answer {
+            quantity: now,
+            refusal: 0,
+        };
+    }
+    let p = plain(t, l);
+    let slots = t.slots;
+    let b = bases::base_of(p, slots.len);
+    if b.refusal != 0 {
+        return answers::refused(b.refusal);
+    }
+    let e = b.at;
+    let y = bases::scale_from(1.0, p);
+    match y {
+        Scaled::Value(s) => {
+            let u = reduce::base_factors(slots, e);
+            if is_single(u) & near_one(s) {
+                let z = converted(t, now.value, l, u);
+                let Converted::Value(w) = z else {
+                    return answers::refused(convert::refusal_of(z));
+                };
+                return answers::with_mark(w, u, true);
+            }
+            chosen(t, now, e, s, c)
+        }
+        Scaled::Refused(r) => answers::refused(r),
+    }
+}
+
+pub fn full_simplify_with(rows: Rows, q: Quantity, c: Candidates) -> Answer
+    ensures { λ r. ⌜ r ≡ answeredOf (calls.fullSimplifyWith rows q c) ⌝ }
+{
+    let t = tables::admission::admit(rows);
+    if t.refusal != 0 {
+        return answers::refused(t.refusal);
+    }
+    let u = q.unit;
+    let none = units::lists::empty();
+    let o = resolution::resolve(t, u, none);
+    if o.refusal != 0 {
+        return answers::refused(o.refusal);
+    }
+    let f = candidates_fault(t.len, c);
+    if f != 0 {
+        return answers::refused(f);
+    }
+    let a = o.a;
+    if q.mark {
+        let slots = t.slots;
+        let s = simplification::steps::simplified(q.value, a, slots.len);
+        if s.refusal != 0 {
+            return s;
+        }
+        let now = s.quantity;
+        return registered(t, now, c);
+    }
+    let l = lists::opening::factors_of(a);
+    answers::with_mark(q.value, l, false)
+}

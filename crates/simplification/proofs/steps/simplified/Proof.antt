@@ -1,0 +1,76 @@
+-- `simplified` meets its contract.
+use borrow.Author.Needs.{needs}
+use mathlib.Core.Path.{refl, sym, ap, _∙_}
+use mathlib.Core.List.{[]}
+use native.Mathlib.Omega.{arith}
+use Rattle.exponents.specs.Outcome.{map}
+use Rattle.units.specs.Lists.{some}
+use Rattle.values.specs.Quantities.{answeredOf}
+use Rattle.quantities.proofs.Converting.{value-given, value-refused}
+use Rattle.quantities.proofs.Ready.{no-items}
+use Rattle.simplification.specs.Rules.{rulesBy, convertBy}
+use Rattle.simplification.specs.Steps.{quantityOf, further, simplify}
+use Rattle.simplification.proofs.Stepping.{attempt-given, attempt-refused}
+use Rattle.simplification.proofs.steps.simplified.Statement.{statement}
+use Rattle.simplification.proofs.steps.simplified.Tie as tie
+
+no-items-requires : tie.Need-no-items-requires
+no-items-requires c κs = search needs
+
+convert-requires : tie.Need-convert-requires
+convert-requires c κs = search needs
+
+enum-known-y : tie.Need-enum-known-y
+enum-known-y c = search needs
+
+enum-told : tie.Need-enum-told
+enum-told c = search needs
+
+refusal-of-requires : tie.Need-refusal-of-requires
+refusal-of-requires c κs = search needs
+
+further-requires : tie.Need-further-requires
+further-requires c κs = search needs
+
+returns : tie.Need-returns
+unfolding simplify some
+returns c v fs el lf ln sf =
+    let k = c .before .before .before .before in
+    let s = k .before .before .args in
+    let e = k .convert .ensures v fs [] el (k .before .no-items .ensures ∙ no-items v) lf (omega arith) ln sf refl in
+    let r = value-refused (convertBy (rulesBy v (s .n)) fs [] (s .x)) (k .convert .result) e _ _ (c .before .before .enum-told .given .1) (c .before .refusal-of .ensures) in
+    c .further .ensures (r .why) v fs (sym (r .numbered)) el lf ln sf
+    ∙ ap (λ o. answeredOf (map quantityOf o)) (sym (attempt-refused [] (further (rulesBy v (s .n)) (s .x) fs) (r .why) (r .is)))
+
+empty-requires : tie.Need-empty-requires
+empty-requires c κs = search needs
+
+with-mark-requires : tie.Need-with-mark-requires
+with-mark-requires c κs = search needs
+
+returns-2 : tie.Need-returns-2
+unfolding simplify some
+returns-2 c v fs el lf ln sf =
+    let y = c .before .before .before in
+    let k = y .before .before in
+    let s = k .before .before .args in
+    let e = k .convert .ensures v fs [] el (k .before .no-items .ensures ∙ no-items v) lf (omega arith) ln sf refl in
+    let z = y .y .given in
+    let g = value-given (convertBy (rulesBy v (s .n)) fs [] (s .x)) (k .convert .result) e (z .0 .0) (z .1) in
+    c .with-mark .ensures [] (c .before .empty .ensures)
+    ∙ ap (λ o. answeredOf (map quantityOf o)) (sym (attempt-given [] (further (rulesBy v (s .n)) (s .x) fs) (z .0 .0) g))
+
+pub simplified-spec : {M : Type 1} → statement M
+simplified-spec =
+    tie.close
+    (tie.spec
+    no-items-requires
+    convert-requires
+    enum-known-y
+    enum-told
+    refusal-of-requires
+    further-requires
+    returns
+    empty-requires
+    with-mark-requires
+    returns-2)

@@ -1,0 +1,161 @@
+// The three steps of simplification on a resolved list (01, "Simplification"). Each is handed the refusal of the step before: only UNITS lets it go on.
+ghost use mathlib.Core.Path.{_≡_};
+ghost use mathlib.Core.Bool.{false};
+ghost use mathlib.Core.List.{List, []};
+ghost use Prim.Native.Nat.{_+_, _≤_, _<_};
+ghost use lib.ListN.{length, drop};
+ghost use Rattle.exponents.specs.Outcome.{Refusal, number, map};
+ghost use Rattle.units.specs.declared.Factor.{Factor as Factorᵛ};
+ghost use Rattle.units.specs.Lists.{some, factorFault};
+ghost use Rattle.floats.specs.Power.{one};
+ghost use Rattle.tables.specs.Items.{View, packItems, packed};
+ghost use Rattle.targets.specs.Groups.{leading};
+ghost use Rattle.values.specs.Quantities.{answeredOf};
+ghost use Rattle.simplification.specs.Rules.{rulesBy};
+ghost use Rattle.simplification.specs.Steps as spec;
+ghost use Rattle.simplification.specs.Steps.{quantityOf, goOn, progressOf};
+use canonical::form;
+use conversion::convert;
+use conversion::convert::Converted;
+use exponents::refusals::UNITS;
+use reduction::bases;
+use tables::Items;
+use targets::groups;
+use targets::single;
+use values::answers;
+use values::answers::Answer;
+
+// ---- third step
+
+// The groups before place `next`: their targets joined, and the product of 1 of each converted; or the number of the refusal.
+pub struct Progress {
+    pub unit: Items,
+    pub factor: f64,
+    pub next: usize,
+    pub refusal: u32,
+}
+
+// Nothing but where the next group starts, beside the number of the refusal.
+fn stopped(next: usize, refusal: u32) -> Progress
+    ensures { λ r. ⌜ r ≡ record { unit = packed []; factor = one; next = next; refusal = refusal } ⌝ }
+{
+    let none = tables::no_items();
+    Progress {
+        unit: none,
+        factor: 1.0,
+        next: next,
+        refusal: refusal,
+    }
+}
+
+// One group more, the one that starts at `next`: its target, then its conversion.
+fn with_group(p: Progress, c: Items, n: usize) -> Progress
+    requires { ⌜ p .next < 16 ⌝ }
+    ensures { λ r. ⌜ ((p .next < r .next) × (r .next ≤ 32)) × ((v : View) (us cs gs : List Factorᵛ) → p .unit ≡ packItems v us → c ≡ packItems v cs → gs ≡ leading (rulesBy v n .alike) (drop (p .next) cs) → length us ≤ p .next → length cs ≤ 16 → p .next < length cs → n ≤ 16 → some factorFault cs ≡ false → r ≡ progressOf v (p .next + length gs) (spec.grown (rulesBy v n) (p .factor) us gs)) ⌝ }
+{
+    let i = p.next;
+    let g = groups::group_at(c, i);
+    let end = i + g.len;
+    let t = groups::target_of(g, n);
+    if t.refusal != 0 {
+        return stopped(end, t.refusal);
+    }
+    let m = t.list;
+    let y = convert::convert(1.0, g, m, n);
+    let Converted::Value(z) = y else {
+        return stopped(end, convert::refusal_of(y));
+    };
+    let u = p.unit;
+    let w = groups::joined(u, m);
+    Progress {
+        unit: w,
+        factor: p.factor * z,
+        next: end,
+        refusal: 0,
+    }
+}
+
+// x of the canonical list c, group by group.
+fn by_groups(refusal: u32, x: f64, c: Items, n: usize) -> Answer
+    ensures { λ r. ⌜ ((why : Refusal) (v : View) (cs : List Factorᵛ) → refusal ≡ number why → c ≡ packItems v cs → length cs ≤ 16 → n ≤ 16 → some factorFault cs ≡ false → r ≡ answeredOf (map quantityOf (goOn why (spec.byGroups (rulesBy v n) x cs)))) ⌝ }
+{
+    if refusal != UNITS {
+        return answers::refused(refusal);
+    }
+    let m = bases::capped(c.len);
+    let mut p = stopped(0, 0);
+    while p.next < m {
+        p = with_group(p, c, n);
+        if p.refusal != 0 {
+            return answers::refused(p.refusal);
+        }
+    }
+    let u = p.unit;
+    let k = form::canonical(u);
+    if k.refusal != 0 {
+        return answers::refused(k.refusal);
+    }
+    let w = k.list;
+    let l = lists::opening::factors_of(w);
+    answers::with_mark(x * p.factor, l, true)
+}
+
+// ---- second step
+
+// x of the list l, whose canonical form is c, to the one factor of t; to the groups of c where t is empty.
+fn toward(x: f64, l: Items, t: Items, c: Items, n: usize) -> Answer
+    ensures { λ r. ⌜ ((v : View) (fs ms cs : List Factorᵛ) → l ≡ packItems v fs → t ≡ packItems v ms → c ≡ packItems v cs → length fs ≤ 16 → length ms ≤ 16 → length cs ≤ 16 → n ≤ 16 → some factorFault fs ≡ false → some factorFault ms ≡ false → some factorFault cs ≡ false → r ≡ answeredOf (map quantityOf (spec.toward (rulesBy v n) x fs ms (spec.byGroups (rulesBy v n) x cs)))) ⌝ }
+{
+    if t.len == 0 {
+        return by_groups(UNITS, x, c, n);
+    }
+    let y = convert::convert(x, l, t, n);
+    let Converted::Value(z) = y else {
+        return by_groups(convert::refusal_of(y), x, c, n);
+    };
+    let u = lists::opening::factors_of(t);
+    answers::with_mark(z, u, true)
+}
+
+// What follows the conversion to scalar.
+fn further(refusal: u32, x: f64, l: Items, n: usize) -> Answer
+    ensures { λ r. ⌜ ((why : Refusal) (v : View) (fs : List Factorᵛ) → refusal ≡ number why → l ≡ packItems v fs → length fs ≤ 16 → n ≤ 16 → some factorFault fs ≡ false → r ≡ answeredOf (map quantityOf (goOn why (spec.further (rulesBy v n) x fs)))) ⌝ }
+{
+    if refusal != UNITS {
+        return answers::refused(refusal);
+    }
+    let f = form::canonical(l);
+    if f.refusal != 0 {
+        return answers::refused(f.refusal);
+    }
+    let c = f.list;
+    if c.len < 2 {
+        return by_groups(UNITS, x, c, n);
+    }
+    let b = bases::base_of(c, n);
+    if b.refusal != 0 {
+        return answers::refused(b.refusal);
+    }
+    let e = b.at;
+    let s = single::first_multiple(c, e, n);
+    if s.refusal != 0 {
+        return answers::refused(s.refusal);
+    }
+    let t = s.list;
+    toward(x, l, t, c, n)
+}
+
+// ---- first step
+
+// x of the list l, where the mark permits simplifying and there are n base rows.
+pub fn simplified(x: f64, l: Items, n: usize) -> Answer
+    ensures { λ r. ⌜ ((v : View) (fs : List Factorᵛ) → l ≡ packItems v fs → length fs ≤ 16 → n ≤ 16 → some factorFault fs ≡ false → r ≡ answeredOf (map quantityOf (spec.simplify (rulesBy v n) x fs))) ⌝ }
+{
+    let scalar = tables::no_items();
+    let y = convert::convert(x, l, scalar, n);
+    let Converted::Value(z) = y else {
+        return further(convert::refusal_of(y), x, l, n);
+    };
+    let u = units::lists::empty();
+    answers::with_mark(z, u, true)
+}

@@ -1,0 +1,201 @@
+-- A group's target: the first base exponent of a row, the summed exponents, and the answer case by case.
+use mathlib.Core.Path.{_≡_, refl, sym, ap, _∙_}
+use mathlib.Core.Bool.{Bool, true, false, true≢false}
+use mathlib.Core.List.{List, [], _∷_, _++_}
+use mathlib.Core.List as list
+use Prim.Native.Nat.{ℕ, zero, suc, _+_, _-_, _≤_, _<_}
+use lib.IntN.{ℤ, pos, negsuc}
+use lib.ListN.{length, drop, getD, replicate, drop-of-length-le}
+use Rattle.exponents.specs.Outcome.{Outcome, given, map, bind, each}
+use Rattle.exponents.specs.Fractions.{nought, unit, sameZ, same, add?, mul?, div?, sum?, fractionOf}
+use Rattle.exponents.specs.declared.Exponent.{Exponent}
+use Rattle.exponents.specs.declared.Fraction.{Fraction}
+use Rattle.exponents.specs.declared.Fraction.the-variants.{Exact, Refused}
+use Rattle.exponents.proofs.Holds.{bind-given, bind-refused}
+use Rattle.exponents.proofs.Numbers.{Refuses, exact-given, refused-refuses}
+use Rattle.exponents.proofs.Summing.{sum-on, sum-off, sum-end}
+use Rattle.units.specs.declared.Factor.{Factor}
+use Rattle.tables.specs.declared.Item.{Item}
+use Rattle.tables.specs.declared.Items.{Items}
+use Rattle.tables.specs.Key.{other, first}
+use Rattle.tables.specs.Lists.{baseAt, base}
+use Rattle.tables.specs.Rows.{pick, packExps}
+use Rattle.tables.specs.Items.{View, viewBases, itemOf, packItems, packed}
+use Rattle.tables.proofs.Places.{rest}
+use Rattle.canonical.specs.Order.{atom, of}
+use Rattle.canonical.specs.Canonical.{allNought}
+use Rattle.canonical.specs.Terms.{withFactor}
+use Rattle.canonical.specs.Form.{emptyBut, formOf}
+use Rattle.canonical.specs.declared.form.Form.{Form}
+use Rattle.reduction.proofs.Compared.{packed-nought}
+use Rattle.reduction.proofs.Resolved.{nilItem, item-at}
+use Rattle.targets.specs.Groups.{share, withShare, summed, fitted, greatest, target}
+use Rattle.targets.proofs.Searching.{answer-none, answer-one, answer-refused}
+
+-- ---- the first base exponent of a row: the places before i are zero
+other-zero : (z : ℤ) (x r : Exponent) → z ≡ pos 0 → other z x r ≡ r
+unfolding other
+other-zero z x r e = rw e
+
+other-not : (z : ℤ) (x r : Exponent) → (z ≡ pos 0 → ⊥) → other z x r ≡ x
+unfolding other
+other-not (pos zero) x r h = absurd (h refl)
+other-not (pos (suc n)) x r h = refl
+other-not (negsuc n) x r h = refl
+
+module _ (a : List Exponent) (i : ℕ) (so-far : first a ≡ first (drop i a)) where
+  module _ (x : Exponent) (h : i < length a) where
+    turn : first a ≡ other (getD a i x .num) (getD a i x) (first (drop (i + 1) a))
+    unfolding first
+    turn = so-far ∙ ap first (rest a x i h)
+
+    pub first-on : getD a i x .num ≡ pos 0 → first a ≡ first (drop (i + 1) a)
+    first-on e = turn ∙ other-zero _ _ _ e
+
+    pub first-here : (getD a i x .num ≡ pos 0 → ⊥) → getD a i x ≡ first a
+    first-here e = sym (turn ∙ other-not _ _ _ e)
+
+  pub first-none : length a ≤ i → unit ≡ first a
+  unfolding first
+  first-none h = sym (so-far ∙ ap first (drop-of-length-le a h))
+
+-- the zeros past the base rows make no difference
+padded-first : (k : ℕ) (es : List Exponent) → first (es ++ replicate k nought) ≡ first es
+unfolding first other
+padded-first zero [] = refl
+padded-first (suc k) [] = padded-first k []
+padded-first k (e ∷ es) = ap (other (e .num) e) (padded-first k es)
+
+pub first-packed : (es : List Exponent) → first (packExps es) ≡ first es
+unfolding packExps
+first-packed es = padded-first (16 - length es) es
+
+-- ---- what an item has in a representative, added to acc: w is the first base exponent of its row
+abbrev pub firsts : View → ℕ → Exponent
+firsts v a = first (v .exps a)
+
+module _ (v : View) (d acc : Exponent) (it : Item) (f : Factor) (e : it ≡ itemOf v f) (w : Exponent) (is : w ≡ first (it .exps)) where
+  there : mul? (it .factor .exponent) w ≡ mul? (f .exponent) (first (v .exps (f .row)))
+  there = ap (mul? (it .factor .exponent)) is ∙ ap (λ (it : Item). mul? (it .factor .exponent) (first (it .exps))) e
+
+  pub share-off : (n : ℕ) → fractionOf (mul? (it .factor .exponent) w) ≡ Refused n → Refused n ≡ fractionOf (withShare (firsts v) d acc f)
+  unfolding withShare share
+  share-off n q =
+      let r = refused-refuses (mul? (it .factor .exponent) w) n q in
+      ap Refused (sym (r .numbered)) ∙ sym (ap fractionOf (bind-refused _ (bind-refused _ (sym there ∙ r .is))))
+
+  module _ (p : Exponent) (g : fractionOf (mul? (it .factor .exponent) w) ≡ Exact p) where
+    divided : share (firsts v) d f ≡ div? p d
+    unfolding share
+    divided = bind-given _ (sym there ∙ exact-given (mul? (it .factor .exponent) w) p g)
+
+    pub share-apart : (n : ℕ) → fractionOf (div? p d) ≡ Refused n → Refused n ≡ fractionOf (withShare (firsts v) d acc f)
+    unfolding withShare
+    share-apart n q =
+        let r = refused-refuses (div? p d) n q in
+        ap Refused (sym (r .numbered)) ∙ sym (ap fractionOf (bind-refused _ (divided ∙ r .is)))
+
+    pub share-on : (q : Exponent) → fractionOf (div? p d) ≡ Exact q → fractionOf (add? acc q) ≡ fractionOf (withShare (firsts v) d acc f)
+    unfolding withShare
+    share-on q k = sym (ap fractionOf (bind-given _ (divided ∙ exact-given (div? p d) q k)))
+
+-- ---- the summed exponents: those of the factors before i are in acc
+module _ (v : View) (d : Exponent) (fs : List Factor) (i : ℕ) (acc : Exponent) (so-far : sum? (share (firsts v) d) acc (drop i fs) ≡ summed (firsts v) d fs) where
+  module _ (g : Factor) (h : i < length fs) (x : Fraction) (is : x ≡ fractionOf (withShare (firsts v) d acc (getD fs i g))) where
+    pub summed-on : (t : Exponent) → x ≡ Exact t → sum? (share (firsts v) d) t (drop (i + 1) fs) ≡ summed (firsts v) d fs
+    unfolding withShare
+    summed-on t e = sym (sum-on (share (firsts v) d) fs acc i g h t (exact-given _ t (sym is ∙ e))) ∙ so-far
+
+    pub summed-off : (n : ℕ) → x ≡ Refused n → Refused n ≡ fractionOf (summed (firsts v) d fs)
+    unfolding withShare
+    summed-off n e =
+        let r = refused-refuses _ n (sym is ∙ e) in
+        ap Refused (sym (r .numbered)) ∙ sym (ap fractionOf (sym so-far ∙ sum-off (share (firsts v) d) fs acc i g h (r .why) (r .is)))
+
+  pub summed-end : length fs ≤ i → Exact acc ≡ fractionOf (summed (firsts v) d fs)
+  summed-end h = sym (ap fractionOf (sym so-far ∙ sum-end (share (firsts v) d) fs acc i h))
+
+pub summed-start : (v : View) (d : Exponent) (fs : List Factor) → sum? (share (firsts v) d) nought (drop 0 fs) ≡ summed (firsts v) d fs
+unfolding summed
+summed-start v d fs = refl
+
+-- ---- the target by its cases; the base exponents of the empty list are all zero
+none-base : (bs : List (ℕ → Exponent)) → base bs [] ≡ given (list.map (λ b. nought) bs)
+unfolding base baseAt each sum? bind
+none-base [] = refl
+none-base (b ∷ bs) = ap (map (λ m. nought ∷ m)) (none-base bs)
+
+none-scalar : (bs : List (ℕ → Exponent)) → allNought (list.map (λ b. nought) bs) ≡ true
+unfolding allNought same sameZ
+none-scalar [] = refl
+none-scalar (b ∷ bs) = none-scalar bs
+
+module _ (bs : List (ℕ → Exponent)) (isBase : ℕ → Bool) (firstOf : ℕ → Exponent) where
+  abbrev otherwise : List Factor → Outcome (List Factor)
+  otherwise [] = given []
+  otherwise (f ∷ l) = fitted firstOf (greatest isBase f l) (f ∷ l)
+
+  by-base : (l : List Factor) → target bs isBase firstOf l ≡ bind (base bs l) (λ x. pick (allNought x) (given []) (otherwise l))
+  unfolding target
+  by-base [] = sym (bind-given _ (none-base bs) ∙ ap (λ t. pick t (given []) (given [])) (none-scalar bs))
+  by-base (f ∷ l) = refl
+
+-- ---- as code hands it over
+module _ (v : View) (n : ℕ) (fs : List Factor) where
+  abbrev pub answer : Outcome (List Factor)
+  answer = target (viewBases v n) (v .base) (firsts v) fs
+
+  pub target-range : (k : ℕ) → Refuses (base (viewBases v n) fs) k → emptyBut k ≡ formOf v answer
+  target-range k r = answer-refused v r (by-base (viewBases v n) (v .base) (firsts v) fs ∙ bind-refused _ (r .is))
+
+  module _ (xs x : List Exponent) (b : base (viewBases v n) fs ≡ given xs) (at : x ≡ packExps xs) where
+    zeros : allNought x ≡ allNought xs
+    zeros = ap allNought at ∙ packed-nought xs
+
+    decided : answer ≡ pick (allNought x) (given []) (otherwise (viewBases v n) (v .base) (firsts v) fs)
+    decided =
+        by-base (viewBases v n) (v .base) (firsts v) fs
+        ∙ bind-given _ b
+        ∙ ap (λ t. pick t (given []) (otherwise (viewBases v n) (v .base) (firsts v) fs)) (sym zeros)
+
+    pub target-scalar : allNought x ≡ true → emptyBut 0 ≡ formOf v answer
+    target-scalar h = answer-none v (decided ∙ ap (λ t. pick t (given []) (otherwise (viewBases v n) (v .base) (firsts v) fs)) h)
+
+-- a group that isn't scalar: `it` is its representative's item, d its first base exponent, s the summed exponents
+pub record Choice (v : View) (n : ℕ) (fs : List Factor) (it : Item) : Type 0 where
+  pub factor : Factor
+  pub answers : answer v n fs ≡ fitted (firsts v) factor fs
+  pub is : it ≡ itemOf v factor
+
+pub chosen : (v : View) (n : ℕ) (l : Items) (fs : List Factor) → l ≡ packItems v fs → (xs x : List Exponent) → base (viewBases v n) fs ≡ given xs → x ≡ packExps xs → allNought x ≡ false
+    → (p : ℕ) → ((f : Factor) (gs : List Factor) → fs ≡ f ∷ gs → (p < length (f ∷ gs)) × (getD (f ∷ gs) p f ≡ greatest (v .base) f gs)) → Choice v n fs (getD (l .at) p nilItem)
+chosen v n l [] e xs x b at z p rep = absurd (true≢false (sym (zeros v n [] xs x b at ∙ ap allNought (same-given (sym b ∙ none-base (viewBases v n))) ∙ none-scalar (viewBases v n)) ∙ z))
+  where
+    same-given : {x y : List Exponent} → _≡_ {A = Outcome (List Exponent)} (given x) (given y) → x ≡ y
+    same-given q = cc
+chosen v n l (f ∷ gs) e xs x b at z p rep =
+    let r = rep f gs refl in
+    record {
+      factor = greatest (v .base) f gs;
+      answers = decided v n (f ∷ gs) xs x b at ∙ ap (λ t. pick t (given []) (fitted (firsts v) (greatest (v .base) f gs) (f ∷ gs))) z;
+      is = item-at v l (f ∷ gs) e p nilItem f (r .0) ∙ ap (itemOf v) (r .1);
+    }
+
+module _ (v : View) (n : ℕ) (fs : List Factor) (it : Item) (k : Choice v n fs it) (d : Exponent) (head : d ≡ first (it .exps)) (s : Fraction) (sum : s ≡ fractionOf (summed (firsts v) d fs)) where
+  abbrev total : Outcome Exponent
+  total = summed (firsts v) (first (v .exps (k .factor .row))) fs
+
+  of-factor : s ≡ fractionOf total
+  of-factor = sum ∙ ap (λ d. fractionOf (summed (firsts v) d fs)) (head ∙ ap (λ (it : Item). first (it .exps)) (k .is))
+
+  pub fitted-off : (m : ℕ) → s ≡ Refused m → emptyBut m ≡ formOf v (answer v n fs)
+  unfolding fitted
+  fitted-off m q =
+      let r = refused-refuses total m (sym of-factor ∙ q) in
+      answer-refused v r (k .answers ∙ ap (map (λ e. of (atom (k .factor)) e ∷ [])) (r .is))
+
+  pub fitted-on : (t : Exponent) → s ≡ Exact t → (y : Item) → y ≡ withFactor it (of (atom (it .factor)) t) → (m : Items) → m ≡ packed (y ∷ []) → _≡_ {A = Form} (record { list = m; refusal = 0 }) (formOf v (answer v n fs))
+  unfolding fitted
+  fitted-on t q y a m b =
+      answer-one v m y (of (atom (k .factor)) t) b (a ∙ ap (λ (it : Item). withFactor it (of (atom (it .factor)) t)) (k .is))
+      (k .answers ∙ ap (map (λ e. of (atom (k .factor)) e ∷ [])) (exact-given total t (sym of-factor ∙ q)))
