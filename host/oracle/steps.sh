@@ -1,7 +1,8 @@
 # The steps of `run`, sourced with $here, $root, $build, $published and $streams set.
 
-# The codes that `calls` answers; every other is an unknown one to it.
-standing=$(seq -s, 1 20),23
+# The codes that `calls` answers, every other being an unknown one to it; and those that are asked.
+standing=$(seq -s, 1 23)
+asked=${ORACLE_CODES:-$standing}
 
 # The stored records stand beside the program that answers them again.
 records=$root/crates/replay/data
@@ -195,10 +196,10 @@ bad_end() {
 
 # mixed SEED: 60,000 requests, some over few rows, some over up to 128, some with many faults
 mixed() {
-    program generate $(($1 * 4)) 25000 --calls "$standing"
-    program generate $(($1 * 4 + 1)) 15000 --calls "$standing" --rows 3 --faults 4
-    program generate $(($1 * 4 + 2)) 10000 --calls "$standing" --rows 128 --faults 4
-    program generate $(($1 * 4 + 3)) 10000 --calls "$standing" --faults 60
+    program generate $(($1 * 4)) 25000 --calls "$asked"
+    program generate $(($1 * 4 + 1)) 15000 --calls "$asked" --rows 3 --faults 4
+    program generate $(($1 * 4 + 2)) 10000 --calls "$asked" --rows 128 --faults 4
+    program generate $(($1 * 4 + 3)) 10000 --calls "$asked" --faults 60
 }
 
 # Over seeds: `calls` against the Rust inside its domain, and against 01's reading everywhere.
@@ -232,7 +233,7 @@ damaged() {
     for ((left = count; left > 0 && failed == 0; left -= 50000)); do
         size=$((left < 50000 ? left : 50000))
         # shellcheck disable=SC2086
-        program generate $((5000 + seed)) $size --calls "$standing" ${ways[seed % ${#ways[@]}]} >"$streams/requests"
+        program generate $((5000 + seed)) $size --calls "$asked" ${ways[seed % ${#ways[@]}]} >"$streams/requests"
         program oracle --reading <"$streams/requests" >"$streams/reading"
         answered $size || failed=1
         program compare "$streams"/{requests,reading,calls} --add "$streams/counts" || failed=1
@@ -280,6 +281,22 @@ edges() {
     done
     python3 "$root/crates/replay/make.py"
     return $failed
+}
+
+# The named cases of simplification, with the Rust's answers inside its domain and 01's reading's elsewhere; nothing is
+# stored if the two differ inside it.
+named() {
+    local by
+    python3 -B "$here/named.py" requests >"$streams/requests"
+    program oracle <"$streams/requests" >"$streams/rust"
+    program oracle --reading <"$streams/requests" >"$streams/reading"
+    python3 -B "$here/named.py" store "$streams/records" "$streams"/{rust,reading}
+    program store split "$streams/requests" "$streams/stored" "$streams/records"
+    program compare "$streams"/{requests,rust,reading,stored}
+    cp "$streams/records" "$records/named-simplifications.bin"
+    for by in rust reading; do program decode "$streams/requests" "$streams/$by" >"$streams/$by.text"; done
+    python3 -B "$here/named.py" table "$streams"/{rust,reading}.text
+    python3 "$root/crates/replay/make.py"
 }
 
 # What `calls` answers in the gate, and 01's answers: requests with many faults, the last one cut short.
