@@ -14,11 +14,12 @@ use Rattle.units.specs.declared.Row.{Row}
 use Rattle.units.specs.declared.Quantity.{Quantity}
 use Rattle.units.specs.declared.Candidate.{Candidate}
 use Rattle.units.specs.Lists.{noFactor, pack}
+use Rattle.lent.specs.Lent.{noRow, noCandidate}
 use Rattle.tables.specs.Rows.{pick}
 use Rattle.tables.proofs.Places.{All}
 use Rattle.wire.specs.Bytes.{runAt, runBytes, padTo, countOf}
 use Rattle.wire.specs.Records.{exponentBytes, prefixBytes, listBytes, quantityBytes, rowBytes, candidateBytes}
-use Rattle.wire.specs.Arguments.{prefixFrom, exponentFrom, listFrom, quantityFrom, manyIn, noRow, noCandidate, tableFrom, candidatesFrom}
+use Rattle.wire.specs.Arguments.{prefixFrom, exponentFrom, listFrom, quantityFrom, manyIn, tableFrom, candidatesFrom}
 use Rattle.wire.proofs.Form.{Form, alone, holding, run-sized, run-back}
 use Rattle.wire.proofs.Round.{ExponentFits, PrefixFits, FactorFits, ListFits, QuantityFits, CandidateFits, RowFits, exponent-form, prefix-form, list-form, quantity-form, candidate-form, row-form}
 

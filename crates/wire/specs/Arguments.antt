@@ -9,13 +9,11 @@ use lib.ListN.{length, replicate}
 use Rattle.exponents.specs.declared.Exponent.{Exponent}
 use Rattle.units.specs.declared.Prefix.{Prefix}
 use Rattle.units.specs.declared.Factors.{Factors}
-use Rattle.units.specs.declared.Kind.the-variants.{Base}
-use Rattle.units.specs.declared.Row.{Row}
 use Rattle.units.specs.declared.Rows.{Rows}
 use Rattle.units.specs.declared.Quantity.{Quantity}
-use Rattle.units.specs.declared.Candidate.{Candidate}
 use Rattle.units.specs.declared.Candidates.{Candidates}
 use Rattle.units.specs.Lists.{noFactor, pack}
+use Rattle.lent.specs.Lent.{noRow, noCandidate}
 use Rattle.tables.specs.Rows.{pick}
 use Rattle.wire.specs.Bytes.{runAt, padTo, countOf}
 use Rattle.wire.specs.Records.{exponentAt, badPrefix, prefixAt, listAt, quantityAt, rowAt, candidateAt}
@@ -50,13 +48,6 @@ quantityFrom s = pick (eqb (length s) 336) (quantityAt s 0) badQuantity
 -- how many records of so many bytes are n bytes; one more than the most where they are no whole number
 unfoldable pub manyIn : ℕ → ℕ → ℕ → ℕ
 manyIn size most n = pick (eqb (n % size) 0) (n / size) (most + 1)
-
--- what stands past the end of a table's rows, and of candidates
-abbrev pub noRow : Row
-noRow = record { def = replicate 8 noFactor; len = 0; rank = 0; kind = Base }
-
-abbrev pub noCandidate : Candidate
-noCandidate = record { unit = record { at = replicate 16 noFactor; len = 0 }; rank = 0 }
 
 unfoldable pub tableFrom : List ℕ → Rows
 tableFrom s = record { at = padTo noRow 128 (runAt rowAt 176 (countOf 128 (manyIn 176 128 (length s))) s 0); len = manyIn 176 128 (length s) }

@@ -1,17 +1,14 @@
 // Any bytes as a call's arguments: bytes of the wrong length read as a record that breaks its rule, so that the call
 // refuses them where it refuses such a record.
 ghost use mathlib.Core.Path.{_≡_};
-ghost use Rattle.wire.specs.Arguments.{badExponent, badList, badQuantity, prefixFrom, exponentFrom, listFrom, quantityFrom, manyIn, noRow, noCandidate, tableFrom, candidatesFrom};
+ghost use Rattle.wire.specs.Arguments.{badExponent, badList, badQuantity, prefixFrom, exponentFrom, listFrom, quantityFrom, manyIn, tableFrom, candidatesFrom};
 ghost use Prim.Native.Nat.{_<_};
 use super::reading;
 use exponents::Exponent;
-use units::Candidate;
 use units::Candidates;
 use units::Factors;
-use units::Kind;
 use units::Prefix;
 use units::Quantity;
-use units::Row;
 use units::Rows;
 
 pub fn prefix(s: &[u8]) -> Prefix
@@ -76,25 +73,12 @@ fn many(len: usize, size: usize, most: usize) -> usize
     most + 1
 }
 
-fn no_row() -> Row
-    ensures { λ r. ⌜ r ≡ noRow ⌝ }
-{
-    let none = units::lists::no_factor();
-    let kind = Kind::Base;
-    Row {
-        def: [none; 8],
-        len: 0,
-        rank: 0,
-        kind,
-    }
-}
-
 pub fn table(s: &[u8]) -> Rows
     ensures { λ r. ⌜ r ≡ tableFrom (now (s .entry)) ⌝ }
 {
     let len = many(s.len(), 176, 128);
     let n = reading::count(128, len);
-    let none = no_row();
+    let none = lent::no_row();
     let mut at = [none; 128];
     let mut i = 0;
     while i < n {
@@ -105,23 +89,12 @@ pub fn table(s: &[u8]) -> Rows
     Rows { at, len }
 }
 
-fn no_candidate() -> Candidate
-    ensures { λ r. ⌜ r ≡ noCandidate ⌝ }
-{
-    let none = units::lists::no_factor();
-    let unit = Factors {
-        at: [none; 16],
-        len: 0,
-    };
-    Candidate { unit, rank: 0 }
-}
-
 pub fn candidates(s: &[u8]) -> Candidates
     ensures { λ r. ⌜ r ≡ candidatesFrom (now (s .entry)) ⌝ }
 {
     let len = many(s.len(), 328, 32);
     let n = reading::count(32, len);
-    let none = no_candidate();
+    let none = lent::no_candidate();
     let mut at = [none; 32];
     let mut i = 0;
     while i < n {

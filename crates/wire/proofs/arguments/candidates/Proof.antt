@@ -3,9 +3,10 @@ use borrow.Author.Needs.{needs}
 use mathlib.Core.Path.{_≡_, ap, _∙_}
 use Prim.Native.Nat.{_-_, _≤_}
 use native.Mathlib.Omega.{arith}
+use Rattle.lent.specs.Lent.{noCandidate}
 use Rattle.wire.specs.Bytes.{runAt, padTo, countOf}
 use Rattle.wire.specs.Records.{candidateAt}
-use Rattle.wire.specs.Arguments.{noCandidate, candidatesFrom}
+use Rattle.wire.specs.Arguments.{candidatesFrom}
 use Rattle.wire.proofs.Runs.{places-turn, records-inside}
 use Rattle.wire.proofs.arguments.candidates.Statement.{statement}
 use Rattle.wire.proofs.arguments.candidates.Tie as tie

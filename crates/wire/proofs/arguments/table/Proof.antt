@@ -3,9 +3,10 @@ use borrow.Author.Needs.{needs}
 use mathlib.Core.Path.{_≡_, ap, _∙_}
 use Prim.Native.Nat.{_-_, _≤_}
 use native.Mathlib.Omega.{arith}
+use Rattle.lent.specs.Lent.{noRow}
 use Rattle.wire.specs.Bytes.{runAt, padTo, countOf}
 use Rattle.wire.specs.Records.{rowAt}
-use Rattle.wire.specs.Arguments.{noRow, tableFrom}
+use Rattle.wire.specs.Arguments.{tableFrom}
 use Rattle.wire.proofs.Runs.{places-turn, records-inside}
 use Rattle.wire.proofs.arguments.table.Statement.{statement}
 use Rattle.wire.proofs.arguments.table.Tie as tie

@@ -1,7 +1,7 @@
 -- `no_candidate` meets its contract.
 use borrow.Author.Needs.{needs}
-use Rattle.wire.proofs.arguments.no_candidate.Statement.{statement}
-use Rattle.wire.proofs.arguments.no_candidate.Tie as tie
+use Rattle.lent.proofs.no_candidate.Statement.{statement}
+use Rattle.lent.proofs.no_candidate.Tie as tie
 
 no-factor-requires : tie.Need-no-factor-requires
 no-factor-requires c κs = search needs

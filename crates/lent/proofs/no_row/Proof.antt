@@ -1,7 +1,7 @@
 -- `no_row` meets its contract.
 use borrow.Author.Needs.{needs}
-use Rattle.wire.proofs.arguments.no_row.Statement.{statement}
-use Rattle.wire.proofs.arguments.no_row.Tie as tie
+use Rattle.lent.proofs.no_row.Statement.{statement}
+use Rattle.lent.proofs.no_row.Tie as tie
 
 no-factor-requires : tie.Need-no-factor-requires
 no-factor-requires c κs = search needs

@@ -1,0 +1,10 @@
+-- What an exported call answers (the byte form, "An exported function"): the refusal's number, 0 for answered, and the answer's bytes in the lent room.
+use mathlib.Core.Path.{_≡_}
+use mathlib.Core.List.{List}
+use Prim.Native.Nat.{ℕ}
+use Rattle.exponents.specs.Outcome.{Outcome, refusalOf}
+use Rattle.replies.specs.Replies.{sent, left}
+
+-- the call whose answer is o returns r and leaves end in the room
+abbrev pub Exported : List ℕ → Outcome (List ℕ) → ℕ → List ℕ → Type 0
+Exported room o r end = (r ≡ refusalOf (sent room o)) × (end ≡ left room (sent room o))
