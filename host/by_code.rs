@@ -1,0 +1,48 @@
+// The archive's functions by the codes of the byte form, for programs that take requests.
+use demsharin::bytes::{LIST_BYTES, MULTIPLE_BYTES, NUMBER_BYTES, QUANTITY_BYTES, REDUCED_BYTES, VALUE_BYTES};
+use demsharin::exports;
+use wire::calls::{self, Kind};
+use wire::stream::Request;
+
+/// The number that the call answers with.
+#[inline(always)]
+pub fn call(request: &Request, out: &mut [u8]) -> u32 {
+    match (request.code, request.arguments.as_slice()) {
+        (1, [prefix]) => exports::prefix_factor(prefix, out),
+        (2, [table, a, b]) => exports::product(table, a, b, out),
+        (3, [table, a, b]) => exports::quotient(table, a, b, out),
+        (4, [table, a, b]) => exports::list_power(table, a, b, out),
+        (5, [table, a]) => exports::canonical(table, a, out),
+        (6, [table, a, b]) => exports::same_list(table, a, b, out),
+        (7, [table, a]) => exports::reduce_list(table, a, out),
+        (8, [table, a]) => exports::reduce(table, a, out),
+        (9, [table, a, b]) => exports::convert_to(table, a, b, out),
+        (10, [table, a, b]) => exports::add(table, a, b, out),
+        (11, [table, a, b]) => exports::subtract(table, a, b, out),
+        (12, [table, a, b]) => exports::multiply(table, a, b, out),
+        (13, [table, a, b]) => exports::checked_div(table, a, b, out),
+        (14, [table, a, b]) => exports::checked_power(table, a, b, out),
+        (15, [table, a]) => exports::negate(table, a, out),
+        (16, [table, a]) => exports::abs(table, a, out),
+        (17, [table, a, b]) => exports::equal(table, a, b, out),
+        (18, [table, a, b]) => exports::compare(table, a, b, out),
+        (19, [table, a, b]) => exports::smaller_unit(table, a, b, out),
+        (20, [table, a, b]) => exports::is_multiple_of(table, a, b, out),
+        (21, [table, a]) => exports::full_simplify(table, a, out),
+        (22, [table, a, b]) => exports::full_simplify_with(table, a, b, out),
+        (23, [table, a]) => exports::no_simplify(table, a, out),
+        (code, arguments) => panic!("no call {code} with {} arguments", arguments.len()),
+    }
+}
+
+/// The bytes of the call's answer.
+pub fn answer_bytes(code: u32) -> usize {
+    match calls::of_code(code).expect("a known code").answer {
+        Kind::Value => VALUE_BYTES,
+        Kind::YesNo | Kind::Order => NUMBER_BYTES,
+        Kind::List => LIST_BYTES,
+        Kind::Multiple => MULTIPLE_BYTES,
+        Kind::Reduced => REDUCED_BYTES,
+        _ => QUANTITY_BYTES,
+    }
+}

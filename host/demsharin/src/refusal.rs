@@ -1,0 +1,82 @@
+// The eleven refusals, with the numbers that the library has for them.
+use std::fmt;
+
+/// Why a call has no answer.
+#[derive(Debug, Clone, Copy, PartialEq, Eq, Hash, PartialOrd, Ord)]
+#[repr(u32)]
+pub enum Refusal {
+    /// Over 128 rows, or a row breaks the table rules.
+    Table = 1,
+    /// A list is too long, a prefix or an exponent breaks its rule, or candidates are too many or don't rise in rank.
+    Shape = 2,
+    /// A list names a row that isn't there.
+    Unknown = 3,
+    /// A product or a quotient has over 16 factors before merging.
+    Room = 4,
+    /// An exponent leaves its range.
+    Range = 5,
+    /// The units don't agree, and the value isn't zero.
+    Units = 6,
+    /// A scale other than 1 meets an exponent that isn't whole.
+    Fraction = 7,
+    /// The divisor's value is zero.
+    DivZero = 8,
+    /// Zero to an exponent below zero.
+    ZeroNeg = 9,
+    /// A power by a value that isn't whole.
+    NonWhole = 10,
+    /// A comparison with a NaN, or a NaN after conversion.
+    Nan = 11,
+}
+
+impl Refusal {
+    /// All of them, in the order of their numbers.
+    pub const ALL: [Refusal; 11] = [
+        Refusal::Table,
+        Refusal::Shape,
+        Refusal::Unknown,
+        Refusal::Room,
+        Refusal::Range,
+        Refusal::Units,
+        Refusal::Fraction,
+        Refusal::DivZero,
+        Refusal::ZeroNeg,
+        Refusal::NonWhole,
+        Refusal::Nan,
+    ];
+
+    /// The refusal's number, 1 to 11.
+    pub const fn number(self) -> u32 {
+        self as u32
+    }
+
+    /// The refusal of a number; 0 and numbers above 11 are none.
+    pub fn of(number: u32) -> Option<Refusal> {
+        Refusal::ALL.get((number as usize).wrapping_sub(1)).copied()
+    }
+
+    /// The name that the rules have for it, as DIVZERO.
+    pub const fn name(self) -> &'static str {
+        match self {
+            Refusal::Table => "TABLE",
+            Refusal::Shape => "SHAPE",
+            Refusal::Unknown => "UNKNOWN",
+            Refusal::Room => "ROOM",
+            Refusal::Range => "RANGE",
+            Refusal::Units => "UNITS",
+            Refusal::Fraction => "FRACTION",
+            Refusal::DivZero => "DIVZERO",
+            Refusal::ZeroNeg => "ZERONEG",
+            Refusal::NonWhole => "NONWHOLE",
+            Refusal::Nan => "NAN",
+        }
+    }
+}
+
+impl fmt::Display for Refusal {
+    fn fmt(&self, f: &mut fmt::Formatter<'_>) -> fmt::Result {
+        f.write_str(self.name())
+    }
+}
+
+impl std::error::Error for Refusal {}

@@ -1,0 +1,114 @@
+// One request answered by the archive, and held against the Rust, 01's reading and the byte form's rules for lent room.
+use std::panic::{self, AssertUnwindSafe};
+
+use generator::random::Random;
+use wire::refusals::{self, OUTSIDE_PANIC, ROOM, is_outside};
+use wire::stream::{Answer, Request};
+use wire::text;
+
+use crate::by_code::{answer_bytes, call};
+use crate::counts::{Counts, DIFFERENT, UNJUDGED};
+
+/// What stands in lent room before a call.
+const PAINT: u8 = 0x5a;
+/// At most so many differences are shown in full.
+const SHOWN: u64 = 5;
+
+pub struct Judge {
+    random: Random,
+    pub counts: Counts,
+    held: u64,
+    by_the_rust: u64,
+    untouched: u64,
+    longer: u64,
+    short: u64,
+    different: u64,
+}
+
+/// The Rust's answer inside the equality domain, or why there is none.
+fn by_the_rust(request: &Request) -> Answer {
+    if let Some(number) = scope::domain::outside(request) {
+        return Answer::refused(number);
+    }
+    panic::catch_unwind(AssertUnwindSafe(|| published::answers::answer(request)))
+        .unwrap_or_else(|_| Answer::refused(OUTSIDE_PANIC))
+}
+
+/// The archive's answer with the whole room after the call.
+fn answered(request: &Request, room: usize) -> (u32, Vec<u8>) {
+    let mut out = vec![PAINT; room];
+    let number = call(request, &mut out);
+    (number, out)
+}
+
+/// What the room must hold: the answer and behind it the paint, or the paint alone.
+fn expected(reading: &Answer, room: usize) -> Vec<u8> {
+    let mut out = vec![PAINT; room];
+    out[..reading.bytes.len()].copy_from_slice(&reading.bytes);
+    out
+}
+
+impl Judge {
+    pub fn new(seed: u64) -> Judge {
+        let random = Random::new(!seed);
+        let (counts, held, by_the_rust) = (Counts::default(), 0, 0);
+        Judge { random, counts, held, by_the_rust, untouched: 0, longer: 0, short: 0, different: 0 }
+    }
+
+    pub fn hold(&mut self, request: &Request) {
+        let reading = scope::calls::answer(request);
+        let rust = by_the_rust(request);
+        let spare = self.random.pick(&[0, 0, 1, 7, 40]);
+        let room = answer_bytes(request.code) + spare;
+        let (number, out) = answered(request, room);
+        let judged = !is_outside(rust.number);
+        let alike = number == reading.number && out == expected(&reading, room) && (!judged || rust == reading);
+        let fits = self.fits_short_room(request, &reading);
+        self.held += 1;
+        self.by_the_rust += u64::from(judged);
+        self.untouched += u64::from(alike && number != 0);
+        self.longer += u64::from(alike && number == 0 && spare > 0);
+        let outcome = if alike && fits { refusals::name(number) } else { DIFFERENT.to_string() };
+        self.counts.add(request.code, &outcome, 1);
+        if !judged {
+            self.counts.add(request.code, UNJUDGED, 1);
+        }
+        if !(alike && fits) {
+            self.show(request, [&reading, &rust, &Answer { number, bytes: out }], fits);
+        }
+    }
+
+    /// For one request in eight: too short a room gets ROOM, or the refusal that comes before, and keeps its bytes.
+    fn fits_short_room(&mut self, request: &Request, reading: &Answer) -> bool {
+        if !self.random.percent(12) {
+            return true;
+        }
+        let room = self.random.below(answer_bytes(request.code));
+        let wanted = if reading.number == 0 { ROOM } else { reading.number };
+        let fits = answered(request, room) == (wanted, vec![PAINT; room]);
+        self.short += u64::from(fits);
+        fits
+    }
+
+    fn show(&mut self, request: &Request, [reading, rust, ours]: [&Answer; 3], fits: bool) {
+        self.different += 1;
+        if self.different > SHOWN {
+            return;
+        }
+        println!("difference: {}", text::request(request));
+        let named = [("the reading", reading), ("the Rust", rust)];
+        named.iter().for_each(|(who, a)| println!("  {who}: {}", text::answer(request.code, a)));
+        println!("  the archive: {}, the room after it: {:02x?}", refusals::name(ours.number), ours.bytes);
+        if !fits {
+            println!("  too short a room was not refused, or has changed");
+        }
+    }
+
+    pub fn summary(&self) -> String {
+        format!(
+            "{} compared with 01's reading, {} of them with the Rust too; {} different; {} refusals left the room as it \
+             was, {} longer rooms kept their end, {} short ones were refused",
+            self.held, self.by_the_rust, self.different, self.untouched, self.longer, self.short
+        )
+    }
+}

@@ -1,0 +1,63 @@
+// The archive against the published Rust and 01's reading, all in this one process.
+//
+//   differential SEED COUNT COUNTS    COUNT requests of a seed; counts per call and outcome go to the file COUNTS
+//   differential --table COUNTS ..    prints such files as one table
+//
+// The archive's answer is held against the Rust's inside the equality domain, and against the reading's everywhere.
+// Ends with 1 if an answer differs, or if a call treats the room for its answer in another way than the byte form says.
+#[path = "../by_code.rs"]
+mod by_code;
+// The oracle prints them in another way too.
+#[allow(dead_code)]
+#[path = "../oracle/programs/counts.rs"]
+mod counts;
+mod judging;
+mod requests;
+
+use std::io;
+use std::process::ExitCode;
+use std::time::Instant;
+
+use counts::{Counts, DIFFERENT};
+use generator::random::Random;
+use judging::Judge;
+
+const USE: &str = "differential SEED COUNT COUNTS, or differential --table COUNTS ..";
+
+fn held(seed: u64, count: u64, file: &str) -> io::Result<bool> {
+    let mut random = Random::new(seed);
+    let mut judge = Judge::new(seed);
+    let from = Instant::now();
+    for _ in 0..count {
+        judge.hold(&requests::next(&mut random));
+    }
+    let spent = from.elapsed().as_secs_f64();
+    println!("seed {seed}: {} ({:.0} requests a second)", judge.summary(), count as f64 / spent);
+    judge.counts.add_to(file)?;
+    Ok(judge.counts.of(DIFFERENT) == 0)
+}
+
+/// The files are added up into the first.
+fn table(files: &[String]) -> io::Result<bool> {
+    let [first, others @ ..] = files else { return Err(io::Error::other(USE)) };
+    for file in others {
+        Counts::read(file)?.add_to(first)?;
+    }
+    let counts = Counts::read(first)?;
+    counts.print_table();
+    counts.print_total();
+    Ok(counts.of(DIFFERENT) == 0)
+}
+
+fn main() -> io::Result<ExitCode> {
+    let given: Vec<String> = std::env::args().skip(1).collect();
+    let number = |at: usize| given[at].parse::<u64>().map_err(|_| io::Error::other(USE));
+    // A panic of the Rust is an answer of its own, not a message.
+    std::panic::set_hook(Box::new(|_| {}));
+    let alike = match given.first().map(String::as_str) {
+        Some("--table") => table(&given[1..])?,
+        _ if given.len() == 3 => held(number(0)?, number(1)?, &given[2])?,
+        _ => return Err(io::Error::other(USE)),
+    };
+    Ok(if alike { ExitCode::SUCCESS } else { ExitCode::FAILURE })
+}

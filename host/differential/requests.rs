@@ -1,0 +1,28 @@
+// The requests of a seed: the oracle's generator in several of its ways.
+use generator::random::Random;
+use generator::{faults, noise, requests, wild};
+use wire::stream::Request;
+
+/// How often each way is gone: as they come, over about three rows, over up to 128, mostly with a fault, with bytes
+/// damaged, with random bytes for at least one argument.
+const WEIGHTS: [usize; 6] = [42, 25, 9, 14, 5, 5];
+
+pub fn next(random: &mut Random) -> Request {
+    let code = 1 + random.below(23) as u32;
+    let way = random.weighted(&WEIGHTS);
+    let (rows, share) = match way {
+        1 => (3, 4),
+        2 => (128, 4),
+        3 => (19, 60),
+        _ => (19, 8),
+    };
+    let mut draft = requests::draft(random, code, rows);
+    if random.percent(share) {
+        faults::put(random, &mut draft);
+    }
+    match way {
+        4 => wild::damaged(random, draft.request()),
+        5 => noise::filled(random, draft.request()),
+        _ => draft.request(),
+    }
+}

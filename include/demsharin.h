@@ -1,0 +1,186 @@
+/* Demsharin: verified unit arithmetic. The functions of libdemsharin.a, for C and C++ on x86-64.
+ *
+ * Every function takes byte slices, each as a pointer and a length: the table (but for
+ * demsharin_prefix_factor), the arguments in order, and last the room for the answer. It returns 0 if
+ * it answered, or the number of a refusal. Any bytes of any length may be given: what breaks a rule is
+ * refused. A refusal writes nothing; an answer leaves what lies behind it in a longer room.
+ *
+ * The room must not overlap an argument, and no pointer may be null, not even with the length 0.
+ * Functions keep nothing between calls and may be called from several threads; each needs less than
+ * 512 KiB of stack. Link with -ldemsharin -lm.
+ *
+ * Records. All numbers are little-endian, without padding. Reserved bytes are never read. Places past
+ * a length are never read either; in answers they hold row 0, Metric(0), 0/1.
+ *
+ *   Exponent    0 numerator i32       4 denominator u32 (a fraction in lowest terms, zero as 0/1)
+ *   Prefix      0 kind u32 (0 metric: a power of ten, 1 binary: of two)       4 n i32 (-1100 to 1100)
+ *   Factor      0 row u32             4 Prefix                12 Exponent
+ *   List        0 length u32          4 Factor x 16
+ *   Quantity    0 value's bits u64    8 mark u32 (0: may not be simplified)   12 List
+ *   Row         0 rank u16            2 kind u16 (0 base, 1 derived)          4 definition's length u32
+ *               8 factor's bits u64 (of a base row never read)                16 Factor x 8
+ *   Candidate   0 rank u16            2 reserved u16          4 List
+ *   Multiple    0 found u32 (1 or 0)  4 Exponent (0/1 for none)
+ *   Reduced     0 scale's bits u64    8 List
+ *
+ * A value's bits are those of a binary64; any NaN counts as the one that answers have,
+ * 0x7ff8000000000000. A table is a run of at most 128 Rows, at most 16 of them base; ranks differ, a
+ * definition names lower rows only. Candidates are a run of at most 32, their ranks rising.
+ */
+#ifndef DEMSHARIN_H
+#define DEMSHARIN_H
+
+#include <stddef.h>
+#include <stdint.h>
+
+/* Sizes of the records, and of the answers that are no record. */
+#define DEMSHARIN_EXPONENT_BYTES 8
+#define DEMSHARIN_PREFIX_BYTES 8
+#define DEMSHARIN_FACTOR_BYTES 20
+#define DEMSHARIN_LIST_BYTES 324
+#define DEMSHARIN_QUANTITY_BYTES 336
+#define DEMSHARIN_ROW_BYTES 176
+#define DEMSHARIN_CANDIDATE_BYTES 328
+#define DEMSHARIN_MULTIPLE_BYTES 12
+#define DEMSHARIN_REDUCED_BYTES 332
+#define DEMSHARIN_NUMBER_BYTES 4
+#define DEMSHARIN_VALUE_BYTES 8
+
+/* How many there may be. */
+#define DEMSHARIN_LIST_FACTORS 16
+#define DEMSHARIN_DEFINITION_FACTORS 8
+#define DEMSHARIN_TABLE_ROWS 128
+#define DEMSHARIN_BASE_ROWS 16
+#define DEMSHARIN_CANDIDATES 32
+
+/* What a function returns: 0, or the first refusal in the order of the checks. The table is checked
+ * first, row by row, then the arguments from left to right, then what the call itself may refuse. */
+enum demsharin_refusal {
+    DEMSHARIN_ANSWERED = 0,
+    DEMSHARIN_TABLE = 1,     /* over 128 rows, a length that no run of rows has, or a row breaks its rules */
+    DEMSHARIN_SHAPE = 2,     /* an argument of the wrong length, a list too long, a prefix or an exponent that
+                                breaks its rule, candidates too many or not rising */
+    DEMSHARIN_UNKNOWN = 3,   /* a list names a row that isn't there */
+    DEMSHARIN_ROOM = 4,      /* a product of over 16 factors; or, after every other refusal, too short a room */
+    DEMSHARIN_RANGE = 5,     /* an exponent leaves its range */
+    DEMSHARIN_UNITS = 6,     /* the units don't agree, and the value isn't zero */
+    DEMSHARIN_FRACTION = 7,  /* a scale other than 1 meets an exponent that isn't whole */
+    DEMSHARIN_DIVZERO = 8,   /* the divisor's value is zero */
+    DEMSHARIN_ZERONEG = 9,   /* zero to an exponent below zero */
+    DEMSHARIN_NONWHOLE = 10, /* a power by a value that isn't whole */
+    DEMSHARIN_NAN = 11       /* a comparison with a NaN, or a NaN after conversion */
+};
+
+#ifdef __cplusplus
+extern "C" {
+#endif
+
+/* Prefix -> value's bits: ten or two to the power n. */
+uint32_t demsharin_prefix_factor(const uint8_t *prefix, size_t prefix_len, uint8_t *out, size_t out_len);
+
+/* List, List -> List: the two joined, unmerged. ROOM over 16 factors. */
+uint32_t demsharin_product(const uint8_t *table, size_t table_len, const uint8_t *list, size_t list_len,
+                           const uint8_t *other, size_t other_len, uint8_t *out, size_t out_len);
+
+/* List, List -> List: the first joined with the second, whose exponents are negated. ROOM over 16 factors. */
+uint32_t demsharin_quotient(const uint8_t *table, size_t table_len, const uint8_t *list, size_t list_len,
+                            const uint8_t *other, size_t other_len, uint8_t *out, size_t out_len);
+
+/* List, Exponent -> List: each exponent multiplied, zeros kept. RANGE. */
+uint32_t demsharin_list_power(const uint8_t *table, size_t table_len, const uint8_t *list, size_t list_len,
+                              const uint8_t *exponent, size_t exponent_len, uint8_t *out, size_t out_len);
+
+/* List -> List: in canonical order, factors of one row and prefix merged, zeros gone. RANGE. */
+uint32_t demsharin_canonical(const uint8_t *table, size_t table_len, const uint8_t *list, size_t list_len,
+                             uint8_t *out, size_t out_len);
+
+/* List, List -> u32, 1 yes or 0 no: whether they have one canonical form. RANGE. */
+uint32_t demsharin_same_list(const uint8_t *table, size_t table_len, const uint8_t *list, size_t list_len,
+                             const uint8_t *other, size_t other_len, uint8_t *out, size_t out_len);
+
+/* List -> Reduced: the list in base units, with its scale. RANGE, FRACTION. */
+uint32_t demsharin_reduce_list(const uint8_t *table, size_t table_len, const uint8_t *list, size_t list_len,
+                               uint8_t *out, size_t out_len);
+
+/* Quantity -> Quantity in base units. RANGE, FRACTION. */
+uint32_t demsharin_reduce(const uint8_t *table, size_t table_len, const uint8_t *quantity,
+                          size_t quantity_len, uint8_t *out, size_t out_len);
+
+/* Quantity, List -> Quantity in the unit of the list; zero converts to any. RANGE, UNITS, FRACTION. */
+uint32_t demsharin_convert_to(const uint8_t *table, size_t table_len, const uint8_t *quantity,
+                              size_t quantity_len, const uint8_t *target, size_t target_len, uint8_t *out,
+                              size_t out_len);
+
+/* Quantity, Quantity -> Quantity: the sum in the smaller of the units; a zero gives the other as it is.
+ * RANGE, FRACTION, UNITS. */
+uint32_t demsharin_add(const uint8_t *table, size_t table_len, const uint8_t *quantity, size_t quantity_len,
+                       const uint8_t *other, size_t other_len, uint8_t *out, size_t out_len);
+
+/* Quantity, Quantity -> Quantity: the difference by the same rules; zero minus a quantity is its negative. */
+uint32_t demsharin_subtract(const uint8_t *table, size_t table_len, const uint8_t *quantity,
+                            size_t quantity_len, const uint8_t *other, size_t other_len, uint8_t *out,
+                            size_t out_len);
+
+/* Quantity, Quantity -> Quantity: values multiplied, lists joined. ROOM over 16 factors. */
+uint32_t demsharin_multiply(const uint8_t *table, size_t table_len, const uint8_t *quantity,
+                            size_t quantity_len, const uint8_t *other, size_t other_len, uint8_t *out,
+                            size_t out_len);
+
+/* Quantity, Quantity -> Quantity: values divided, lists as in a quotient. DIVZERO, ROOM. */
+uint32_t demsharin_checked_div(const uint8_t *table, size_t table_len, const uint8_t *quantity,
+                               size_t quantity_len, const uint8_t *other, size_t other_len, uint8_t *out,
+                               size_t out_len);
+
+/* Quantity, Quantity -> Quantity: the first to a whole power, the second converted to a scalar.
+ * That conversion's refusals, ZERONEG, NONWHOLE, RANGE. */
+uint32_t demsharin_checked_power(const uint8_t *table, size_t table_len, const uint8_t *quantity,
+                                 size_t quantity_len, const uint8_t *exponent, size_t exponent_len,
+                                 uint8_t *out, size_t out_len);
+
+/* Quantity -> Quantity: the value with the other sign. */
+uint32_t demsharin_negate(const uint8_t *table, size_t table_len, const uint8_t *quantity,
+                          size_t quantity_len, uint8_t *out, size_t out_len);
+
+/* Quantity -> Quantity: the value without its sign. */
+uint32_t demsharin_abs(const uint8_t *table, size_t table_len, const uint8_t *quantity, size_t quantity_len,
+                       uint8_t *out, size_t out_len);
+
+/* Quantity, Quantity -> u32, 1 yes or 0 no: the second, in the first's unit, has the first's value; no if
+ * the units don't agree or a value is then a NaN. RANGE, FRACTION. */
+uint32_t demsharin_equal(const uint8_t *table, size_t table_len, const uint8_t *quantity,
+                         size_t quantity_len, const uint8_t *other, size_t other_len, uint8_t *out,
+                         size_t out_len);
+
+/* Quantity, Quantity -> u32, 0 less, 1 equal, 2 greater: the first against the second in the first's unit.
+ * NAN, RANGE, UNITS, FRACTION. */
+uint32_t demsharin_compare(const uint8_t *table, size_t table_len, const uint8_t *quantity,
+                           size_t quantity_len, const uint8_t *other, size_t other_len, uint8_t *out,
+                           size_t out_len);
+
+/* List, List -> List: the one of the smaller scale, the first if they are equal. RANGE, FRACTION. */
+uint32_t demsharin_smaller_unit(const uint8_t *table, size_t table_len, const uint8_t *list, size_t list_len,
+                                const uint8_t *other, size_t other_len, uint8_t *out, size_t out_len);
+
+/* List, List -> Multiple: the exponent to which the second has the first's base exponents. RANGE. */
+uint32_t demsharin_is_multiple_of(const uint8_t *table, size_t table_len, const uint8_t *list,
+                                  size_t list_len, const uint8_t *other, size_t other_len, uint8_t *out,
+                                  size_t out_len);
+
+/* Quantity -> Quantity in a simpler unit, if it has the mark. RANGE, FRACTION. */
+uint32_t demsharin_full_simplify(const uint8_t *table, size_t table_len, const uint8_t *quantity,
+                                 size_t quantity_len, uint8_t *out, size_t out_len);
+
+/* Quantity, Candidates -> Quantity: the same, with candidates for the unit. RANGE, FRACTION. */
+uint32_t demsharin_full_simplify_with(const uint8_t *table, size_t table_len, const uint8_t *quantity,
+                                      size_t quantity_len, const uint8_t *candidates, size_t candidates_len,
+                                      uint8_t *out, size_t out_len);
+
+/* Quantity -> Quantity without the mark. */
+uint32_t demsharin_no_simplify(const uint8_t *table, size_t table_len, const uint8_t *quantity,
+                               size_t quantity_len, uint8_t *out, size_t out_len);
+
+#ifdef __cplusplus
+}
+#endif
+
+#endif
