@@ -114,3 +114,11 @@ speed() {
     program speed wire scope published compact_str
     run_x86 "$build/speed" "$@"
 }
+
+# The picture of the fold. The program ends before anything is drawn, so a failure leaves the picture as it was.
+fold() {
+    rustc_x86 --crate-name fold --edition 2024 -O -D warnings "${wrapper[@]}" -o "$build/fold" "$here/examples/fold.rs"
+    run_x86 "$build/fold" >"$build/fold.txt"
+    cat "$build/fold.txt"
+    python3 "$root/docs/fold/draw.py" <"$build/fold.txt"
+}
