@@ -3,6 +3,7 @@ pub mod Algebra
 pub mod Sums
 pub mod Answered
 pub mod Sorted
+pub mod Settled
 pub mod Decides
 pub mod Equal
 pub mod Bases

@@ -101,7 +101,8 @@ module _ (g c : Factor) (merged : Exponent → Outcome (List Factor)) (rest : Ou
   taken-refuses Ordering·gt n p = whole-refused p
 
 module _ (cmp : Atom → Atom → Ordering) where
-  lessen-none : (m : List Factor) → lessen cmp m [] ≡ given m
+  -- nothing is taken off
+  pub lessen-none : (m : List Factor) → lessen cmp m [] ≡ given m
   unfolding lessen
   lessen-none [] = refl
   lessen-none (g ∷ m) = refl

@@ -21,6 +21,7 @@ use Rattle.common.specs.declared.Shared.{Shared}
 use Rattle.common.specs.declared.Shared.the-variants.{Takes, Nothing}
 use Rattle.common.specs.Common.{meet, ifSame, withShared, sharedWith, common, over}
 use Rattle.common.specs.Lessened.{taken, lessen}
+use Rattle.common.proofs.Lessening.{lessen-none}
 
 -- ---- outcomes mapped and bound
 map-id : {A : Type 0} (o : Outcome A) → outcome.map (λ a. a) o ≡ o
@@ -118,11 +119,6 @@ module _ (cmp : Atom → Atom → Ordering) (O : Weak cmp) where
       ∙ map-map nonzero (λ zs. y ∷ zs) (gather cmp ys xs)
       ∙ sym (map-map (unless (same (y .exponent) nought) y) nonzero (gather cmp ys xs))
 
-  lessen-none : (l : List Factor) → lessen cmp l [] ≡ given l
-  unfolding lessen
-  lessen-none [] = refl
-  lessen-none (g ∷ m) = refl
-
   -- ---- x behind y: y stays
   lessen-behind : (t : Bool) (y : Factor) (l : List Factor) (x : Factor) (xs : List Factor) → cmp (atom x) (atom y) ≡ Ordering·gt →
       outcome.map (unless t y) (lessen cmp l (x ∷ xs)) ≡ lessen cmp (unless t y l) (x ∷ xs)
@@ -165,7 +161,7 @@ module _ (cmp : Atom → Atom → Ordering) (O : Weak cmp) where
   unfolding gather nonzero lessen
   merges [] [] r s h = refl
   merges [] (x ∷ xs) r s h = absurd (h .0)
-  merges (y ∷ ys) [] r s h = sym (lessen-none (nonzero (y ∷ ys)))
+  merges (y ∷ ys) [] r s h = sym (lessen-none cmp (nonzero (y ∷ ys)))
   merges (y ∷ ys) (x ∷ xs) r s h = turn y ys x xs r s _ refl h (merges ys xs (r .1) (s .1)) (merges ys (x ∷ xs) (r .1) s)
 
   -- ---- the common factors, inverted, rise too, and each is found in the second list

@@ -1,4 +1,4 @@
--- What two canonical lists share, as code finds it: a walk through the second list for one factor, and one through the first that fills an array with what is shared.
+-- What two canonical lists share, as code finds it: a walk through the first that fills an array with what is shared, and for each factor one through the second.
 use mathlib.Core.Path.{_≡_, refl, sym, ap, ap₂, _∙_, subst}
 use mathlib.Core.Bool.{Bool, true, false, _&&_}
 use mathlib.Core.List.{List, [], _∷_, _++_, map, map-append, append-assoc, append-nil}
@@ -66,9 +66,10 @@ module _ (v : View) (m : Items) (gs : List Factor) (is : m ≡ packItems v gs) (
         ∙ ap (sharedWith (byPlace v) f) (rest gs noFactor i h)
         ∙ ap₂ (λ (o : Ordering) (x : Item). ifSame o (meet (f .exponent) (x .factor .exponent)) (sharedWith (byPlace v) f (drop (i + 1) gs))) q (sym x)
 
-    pub shared-here : spots p (f .prefix) (here .place) (here .factor .prefix) ≡ Ordering·eq → meet (f .exponent) (here .factor .exponent) ≡ sharedWith (byPlace v) f gs
+    -- the search ended at e
+    pub shared-here : (e : ℕ) → e ≡ i → spots p (f .prefix) (getD (m .at) e d .place) (getD (m .at) e d .factor .prefix) ≡ Ordering·eq → meet (f .exponent) (here .factor .exponent) ≡ sharedWith (byPlace v) f gs
     unfolding ifSame
-    shared-here e = sym (step e)
+    shared-here e z q = sym (step (sym (ap (λ e. spots p (f .prefix) (getD (m .at) e d .place) (getD (m .at) e d .factor .prefix)) z) ∙ q))
 
     pub shared-behind : spots p (f .prefix) (here .place) (here .factor .prefix) ≡ Ordering·lt → sharedWith (byPlace v) f gs ≡ sharedWith (byPlace v) f (drop (i + 1) gs)
     unfolding ifSame

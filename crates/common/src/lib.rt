@@ -14,7 +14,7 @@ ghost use Rattle.canonical.specs.Order.{atom, of, byPlace};
 ghost use Rattle.canonical.specs.Terms.{withFactor, spots};
 ghost use Rattle.canonical.specs.Form.{formOf};
 ghost use Rattle.common.specs.Common as spec;
-ghost use Rattle.common.specs.Common.{common, sharedWith};
+ghost use Rattle.common.specs.Common.{common};
 ghost use Rattle.common.specs.Lessened.{lessen, leftOf};
 use canonical::form::Form;
 use exponents::Exponent;
@@ -51,32 +51,6 @@ fn meet(x: Exponent, y: Exponent) -> Shared
     Shared::Nothing
 }
 
-// What a factor, of a row at place p, has in common with a canonical list.
-fn shared_with(m: Items, p: u32, f: Factor) -> Shared
-    ensures { λ r. ⌜ ((v : View) (gs : List Factorᵛ) → m ≡ packItems v gs → length gs ≤ 16 → p ≡ v .place (f .row) → r ≡ sharedWith (byPlace v) f gs) ⌝ }
-{
-    let n = reduction::bases::capped(m.len);
-    let x = f.prefix;
-    let mut i: usize = 0;
-    while i < n {
-        let y = m.at[i];
-        let g = y.factor;
-        let q = g.prefix;
-        let s = canonical::form::compared(p, x, y.place, q);
-        match s {
-            Sense::Equal => {
-                let a = f.exponent;
-                let b = g.exponent;
-                return meet(a, b);
-            }
-            Sense::Less => {}
-            Sense::Greater => {}
-        }
-        i += 1;
-    }
-    Shared::Nothing
-}
-
 // What is known of a row, with its factor to the exponent -e.
 fn inverted_to(x: Item, e: Exponent) -> Item
     ensures { λ r. ⌜ (isFaulty e ≡ false → r ≡ withFactor x (lists.inverted (of (atom (x .factor)) e))) ⌝ }
@@ -102,19 +76,47 @@ pub fn over_common(l: Items, m: Items) -> Items
     ensures { λ r. ⌜ ((v : View) (fs gs : List Factorᵛ) → l ≡ packItems v fs → m ≡ packItems v gs → length fs ≤ 16 → length gs ≤ 16 → some factorFault fs ≡ false → some factorFault gs ≡ false → r ≡ packItems v (map lists.inverted (common (byPlace v) fs gs))) ⌝ }
 {
     let n = reduction::bases::capped(l.len);
+    let u = reduction::bases::capped(m.len);
     let mut o = tables::no_items();
     let mut k: usize = 0;
     let mut i: usize = 0;
     while i < n {
         let x = l.at[i];
         let f = x.factor;
-        let s = shared_with(m, x.place, f);
-        match s {
-            Shared::Takes(e) => {
-                o.at[k] = inverted_to(x, e);
-                k += 1;
+        let p = f.prefix;
+        // the first of m with the row and prefix of f, if one has them before the end
+        let mut end = u;
+        let mut j: usize = 0;
+        while j < end {
+            let y = m.at[j];
+            let g = y.factor;
+            let q = g.prefix;
+            let s = canonical::form::compared(x.place, p, y.place, q);
+            match s {
+                Sense::Equal => {
+                    end = j;
+                }
+                Sense::Less => {
+                    j += 1;
+                }
+                Sense::Greater => {
+                    j += 1;
+                }
             }
-            Shared::Nothing => {}
+        }
+        if j < u {
+            let y = m.at[j];
+            let g = y.factor;
+            let a = f.exponent;
+            let b = g.exponent;
+            let s = meet(a, b);
+            match s {
+                Shared::Takes(e) => {
+                    o.at[k] = inverted_to(x, e);
+                    k += 1;
+                }
+                Shared::Nothing => {}
+            }
         }
         i += 1;
     }

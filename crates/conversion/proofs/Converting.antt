@@ -1,7 +1,7 @@
 -- Conversion as the code works it out: where each step ends it, and what it answers.
 use mathlib.Core.Path.{_≡_, sym, _∙_, ap, ap₂}
 use mathlib.Core.Bool.{true, false, _||_}
-use mathlib.Core.List.{List, map}
+use mathlib.Core.List.{List, [], _∷_, _++_, append-nil, map}
 use Prim.Native.Nat.{ℕ, _≤_, Ordering}
 use native.Mathlib.Omega.{arith}
 use lib.Ieee.{Float}
@@ -33,6 +33,7 @@ use Rattle.common.specs.Lessened.{lessen}
 use Rattle.conversion.specs.Conversion.{judged, choose, rescaled, against, unlike, convert, convertedOf}
 use Rattle.common.proofs.Shaped.{canon-kept, common-kept, common-short, inverted-kept, lessen-kept, lessen-short}
 use Rattle.common.proofs.Merging.{over-common}
+use Rattle.common.proofs.Lessening.{lessen-none}
 
 -- base exponents compared as code holds them
 pub seen-same : (v : View) (n : ℕ) (l m : List Factor) (es ds x y : List Exponent) → base (viewBases v n) l ≡ given es → base (viewBases v n) m ≡ given ds → x ≡ packExps es → y ≡ packExps ds → sameAll x y ≡ sameAll es ds
@@ -169,3 +170,9 @@ module _ (N : Numbers Float) (size : Factor → Float) where
               ap (λ t. convertedOf (against bs N size (over l (common cmp cl cm)) t x)) (sym (over-common cmp O l m cl cm p q))
               ∙ sym (ap (λ t. convertedOf (choose t x (unlike cmp bs N size (common cmp cl cm) l m x))) h)
               ∙ chooses
+
+    -- ---- nothing in common: nothing is taken off
+    module _ (cmp : Atom → Atom → Ordering) (l m : List Factor) (x : Float) where
+      pub none-common : (cs : List Factor) → length cs ≡ 0 → convertedOf (against bs N size l (given m) x) ≡ convertedOf (against bs N size (l ++ cs) (lessen cmp m cs) x)
+      none-common [] e = ap₂ (λ own target. convertedOf (against bs N size own target x)) (sym (append-nil l)) (sym (lessen-none cmp m))
+      none-common (c ∷ cs) e = absurd (omega arith)

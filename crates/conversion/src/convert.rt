@@ -4,9 +4,11 @@ ghost use mathlib.Core.Bool.{false};
 ghost use mathlib.Core.List.{List, _++_};
 ghost use Prim.Native.Nat.{_≤_};
 ghost use lib.ListN.{length};
+ghost use Rattle.exponents.specs.Outcome.{given};
 ghost use Rattle.units.specs.declared.Factor.{Factor as Factorᵛ};
 ghost use Rattle.units.specs.Lists.{some, factorFault};
-ghost use Rattle.tables.specs.Scale.{binary64, sizeBy};
+ghost use Rattle.tables.specs.Scale.{binary64, sizeBy, scale};
+ghost use Rattle.tables.specs.Rows.{scaledOf};
 ghost use Rattle.tables.specs.Items.{View, viewBases, packItems};
 ghost use Rattle.canonical.specs.Order.{byPlace};
 ghost use Rattle.conversion.specs.Conversion as spec;
@@ -32,11 +34,10 @@ pub fn refusal_of(c: Converted) -> u32
     }
 }
 
-// x times the scale of l and then c, joined, divided by the scale of t.
-fn rescaled(x: f64, l: Items, c: Items, t: Items) -> Converted
-    ensures { λ r. ⌜ ((v : View) (fs cs ts : List Factorᵛ) → l ≡ packItems v fs → c ≡ packItems v cs → t ≡ packItems v ts → length fs ≤ 16 → length cs ≤ 16 → length ts ≤ 16 → r ≡ convertedOf (rescaledBy binary64 (sizeBy (v .scale)) (fs ++ cs) ts x)) ⌝ }
+// x times the own scale a, divided by the scale of t.
+fn rescaled(x: f64, a: Scaled, t: Items) -> Converted
+    ensures { λ r. ⌜ ((v : View) (own ts : List Factorᵛ) → a ≡ scaledOf (scale binary64 (sizeBy (v .scale)) own) → t ≡ packItems v ts → length ts ≤ 16 → r ≡ convertedOf (rescaledBy binary64 (sizeBy (v .scale)) own ts x)) ⌝ }
 {
-    let a = reduction::bases::scale_of(l, c);
     match a {
         Scaled::Value(own) => {
             let b = reduction::bases::scale_from(1.0, t);
@@ -47,6 +48,27 @@ fn rescaled(x: f64, l: Items, c: Items, t: Items) -> Converted
         }
         Scaled::Refused(r) => Converted::Refused(r),
     }
+}
+
+// Between lists that have no factors in common: m is the target's canonical form.
+fn apart(x: f64, l: Items, m: Items, n: usize) -> Converted
+    ensures { λ r. ⌜ ((v : View) (fs gs : List Factorᵛ) → l ≡ packItems v fs → m ≡ packItems v gs → length fs ≤ 16 → length gs ≤ 16 → n ≤ 16 → some factorFault fs ≡ false → some factorFault gs ≡ false → r ≡ convertedOf (settled (viewBases v n) binary64 (sizeBy (v .scale)) fs (given gs) x)) ⌝ }
+{
+    let a = reduction::bases::base_of(l, n);
+    if a.refusal != 0 {
+        return Converted::Refused(a.refusal);
+    }
+    let b = reduction::bases::base_of(m, n);
+    if b.refusal != 0 {
+        return Converted::Refused(b.refusal);
+    }
+    let p = a.at;
+    let q = b.at;
+    if !reduction::bases::same_exponents(p, q) {
+        return Converted::Refused(UNITS);
+    }
+    let s = reduction::bases::scale_from(1.0, l);
+    rescaled(x, s, m)
 }
 
 // Between lists that differ: c has their common factors, inverted, and m is the target's canonical form. The own list over c is not merged.
@@ -71,7 +93,8 @@ fn unlike(x: f64, l: Items, m: Items, c: Items, n: usize) -> Converted
     if !reduction::bases::same_exponents(p, q) {
         return Converted::Refused(UNITS);
     }
-    rescaled(x, l, c, u)
+    let s = reduction::bases::scale_of(l, c);
+    rescaled(x, s, u)
 }
 
 // x of the list l in the list m, where there are n base rows.
@@ -92,5 +115,8 @@ pub fn convert(x: f64, l: Items, m: Items, n: usize) -> Converted
         return Converted::Value(x);
     }
     let c = common::over_common(p, q);
+    if c.len == 0 {
+        return apart(x, l, q, n);
+    }
     unlike(x, l, q, c, n)
 }

@@ -15,8 +15,9 @@ use Rattle.units.specs.Lists.{listOf, pack, some, factorFault, checked, both}
 use Rattle.units.proofs.Checked.{short, no-fault, first-passed, second-passed, both-pass}
 use Rattle.tables.specs.declared.Slot.{Slot}
 use Rattle.tables.specs.declared.Slots.{Slots}
-use Rattle.tables.specs.declared.Table.{Table}
-use Rattle.tables.specs.Rows.{Facts, Admission, admitted, stopped, packSlots, tableOf}
+use Rattle.tables.specs.declared.Admitted.{Admitted}
+use Rattle.tables.specs.Rows.{Facts, Admission, admitted, stopped, packSlots}
+use Rattle.tables.specs.Pages.{admittedOf}
 use Rattle.tables.specs.Items.{viewOf, packItems}
 use Rattle.resolution.specs.Resolve.{resolvedOf}
 use Rattle.resolution.specs.declared.Resolved.{Resolved}
@@ -25,19 +26,19 @@ use Rattle.lists.specs.declared.opening.Opened.{Opened}
 
 -- ---- a table
 
-pub record Admitted (ss : List Slot) (a : Admission) (x : Table) : Type 0 where
+pub record Admits (ss : List Slot) (a : Admission) (x : Admitted) : Type 0 where
   pub rows : List Facts
   pub is : a ≡ admitted rows
-  pub table : x ≡ tableOf ss (admitted rows)
+  pub table : x ≡ admittedOf ss (admitted rows)
 
 module _ (ss : List Slot) where
-  pub admitted-by : (a : Admission) (x : Table) → x ≡ tableOf ss a → x .refusal ≡ 0 → Admitted ss a x
+  pub admitted-by : (a : Admission) (x : Admitted) → x ≡ admittedOf ss a → x .refusal ≡ 0 → Admits ss a x
   admitted-by (admitted ks) x e h = record { rows = ks; is = refl; table = e }
-  admitted-by (stopped r ks) x e h = absurd (omega (arith, number-pos r, ap (λ (y : Table). y .refusal) e))
+  admitted-by (stopped r ks) x e h = absurd (omega (arith, number-pos r, ap (λ (y : Admitted). y .refusal) e))
 
-  pub table-refuses : (a : Admission) (x : Table) → x ≡ tableOf ss a → (x .refusal ≡ 0 → ⊥) → Refuses (known a) (x .refusal)
-  table-refuses (admitted ks) x e h = absurd (h (ap (λ (y : Table). y .refusal) e))
-  table-refuses (stopped r ks) x e h = record { why = r; is = refl; numbered = sym (ap (λ (y : Table). y .refusal) e) }
+  pub table-refuses : (a : Admission) (x : Admitted) → x ≡ admittedOf ss a → (x .refusal ≡ 0 → ⊥) → Refuses (known a) (x .refusal)
+  table-refuses (admitted ks) x e h = absurd (h (ap (λ (y : Admitted). y .refusal) e))
+  table-refuses (stopped r ks) x e h = record { why = r; is = refl; numbered = sym (ap (λ (y : Admitted). y .refusal) e) }
 
 -- ---- two lists resolved
 

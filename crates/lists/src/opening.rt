@@ -5,9 +5,13 @@ ghost use Prim.Native.Nat.{_≤_};
 ghost use lib.ListN.{length};
 ghost use Rattle.units.specs.declared.Factor.{Factor as Factorᵛ};
 ghost use Rattle.units.specs.Lists.{pack};
+ghost use Rattle.units.specs.declared.Rows.{Rows as Rowsᵛ};
+ghost use Rattle.tables.specs.Rows.{admit};
+ghost use Rattle.tables.specs.Pages.{Room, Pages, admittedOf};
 ghost use Rattle.tables.specs.Items.{View, packItems};
 ghost use Rattle.lists.specs.Opening as spec;
 ghost use Rattle.lists.specs.Opening.{baseRows, openedOf, unopened};
+use tables::Admitted;
 use tables::Items;
 use tables::Slots;
 use units::Factors;
@@ -34,26 +38,74 @@ fn unopened(refusal: u32) -> Opened
     }
 }
 
-pub fn open_lists(rows: Rows, a: Factors, b: Factors) -> Opened
-    ensures { λ r. ⌜ r ≡ openedOf (baseRows rows) (spec.opening rows a b) ⌝ }
+// Two lists over an admitted table.
+pub fn open_over(
+    t: Admitted,
+    nums: &[i32],
+    dens: &[u32],
+    scales: &[f64],
+    ranks: &[u16],
+    based: &[bool],
+    a: Factors,
+    b: Factors,
+) -> Opened
+    requires { ⌜ Room (now nums) (now dens) (now scales) (now ranks) (now based) ⌝ }
+    ensures { λ r. ⌜ ((rows : Rowsᵛ) → t ≡ admittedOf (baseRows rows) (admit rows) → Pages (admit rows) (now (nums .entry)) (now (dens .entry)) (now (scales .entry)) (now (ranks .entry)) (now (based .entry)) → r ≡ openedOf (baseRows rows) (spec.opening rows a b)) ⌝ }
 {
-    let t = tables::admission::admit(rows);
     if t.refusal != 0 {
         return unopened(t.refusal);
     }
-    let slots = t.slots;
-    let l = resolution::resolve(t, a, b);
+    let l = resolution::resolve(t.len, nums, dens, scales, ranks, based, a, b);
     if l.refusal != 0 {
         return unopened(l.refusal);
     }
     let x = l.a;
     let y = l.b;
+    let slots = t.slots;
     Opened {
         a: x,
         b: y,
         slots: slots,
         refusal: 0,
     }
+}
+
+// A table alone, checked.
+pub fn admitted(rows: Rows) -> Admitted
+    ensures { λ r. ⌜ r ≡ admittedOf (baseRows rows) (admit rows) ⌝ }
+{
+    let mut nums = [0i32; 2048];
+    let mut dens = [1u32; 2048];
+    let mut scales = [1.0; 128];
+    let mut ranks = [0u16; 128];
+    let mut based = [false; 128];
+    tables::admission::admit(
+        rows,
+        &mut nums,
+        &mut dens,
+        &mut scales,
+        &mut ranks,
+        &mut based,
+    )
+}
+
+pub fn open_lists(rows: Rows, a: Factors, b: Factors) -> Opened
+    ensures { λ r. ⌜ r ≡ openedOf (baseRows rows) (spec.opening rows a b) ⌝ }
+{
+    let mut nums = [0i32; 2048];
+    let mut dens = [1u32; 2048];
+    let mut scales = [1.0; 128];
+    let mut ranks = [0u16; 128];
+    let mut based = [false; 128];
+    let t = tables::admission::admit(
+        rows,
+        &mut nums,
+        &mut dens,
+        &mut scales,
+        &mut ranks,
+        &mut based,
+    );
+    open_over(t, &nums, &dens, &scales, &ranks, &based, a, b)
 }
 
 // The factors of a resolved list.

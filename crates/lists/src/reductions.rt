@@ -1,9 +1,14 @@
-// Reduction of a list of a table, the smaller of two units, and whether one is a power of the other (01, "Powers and scales", "The refusals", "Simplification").
+// Reduction of a list of a table, the smaller of two units, and whether one is a power of the other (01, "Powers and scales", "The refusals", "Simplification"). `_over`: over lists that are opened.
 ghost use mathlib.Core.Path.{_≡_};
-ghost use Rattle.units.specs.Lists.{madeOf};
+ghost use mathlib.Core.List.{[]};
+ghost use Rattle.units.specs.declared.Factors.{Factors as Factorsᵛ};
+ghost use Rattle.units.specs.declared.Rows.{Rows as Rowsᵛ};
+ghost use Rattle.units.specs.Lists.{pack, madeOf};
 ghost use Rattle.reduction.specs.Multiple.{multipleIs};
 ghost use Rattle.reduction.specs.Reduction.{reducedOf};
+ghost use Rattle.lists.specs.Opening.{baseRows, opening, openedOf};
 ghost use Rattle.lists.specs.Calls as spec;
+use super::opening::Opened;
 use reduction::multiples::Multiple;
 use reduction::reduce::Reduced;
 use reduction::reduce::Smaller;
@@ -11,11 +16,9 @@ use units::Factors;
 use units::Rows;
 use units::lists::Made;
 
-pub fn reduce_list(rows: Rows, l: Factors) -> Reduced
-    ensures { λ r. ⌜ r ≡ reducedOf (spec.reduction rows l) ⌝ }
+pub fn reduce_list_over(o: Opened) -> Reduced
+    ensures { λ r. ⌜ ((rows : Rowsᵛ) (l : Factorsᵛ) → o ≡ openedOf (baseRows rows) (opening rows l (pack [])) → r ≡ reducedOf (spec.reduction rows l)) ⌝ }
 {
-    let none = units::lists::empty();
-    let o = super::opening::open_lists(rows, l, none);
     if o.refusal != 0 {
         return reduction::reduce::not_reduced(o.refusal);
     }
@@ -24,11 +27,18 @@ pub fn reduce_list(rows: Rows, l: Factors) -> Reduced
     reduction::reduce::reduce_list(x, s)
 }
 
-// The list itself, as it was given.
-pub fn smaller_unit(rows: Rows, a: Factors, b: Factors) -> Made
-    ensures { λ r. ⌜ r ≡ madeOf (spec.smallerUnit rows a b) ⌝ }
+pub fn reduce_list(rows: Rows, l: Factors) -> Reduced
+    ensures { λ r. ⌜ r ≡ reducedOf (spec.reduction rows l) ⌝ }
 {
-    let o = super::opening::open_lists(rows, a, b);
+    let none = units::lists::empty();
+    let o = super::opening::open_lists(rows, l, none);
+    reduce_list_over(o)
+}
+
+// The list itself, as it was given.
+pub fn smaller_unit_over(o: Opened) -> Made
+    ensures { λ r. ⌜ ((rows : Rowsᵛ) (a b : Factorsᵛ) → o ≡ openedOf (baseRows rows) (opening rows a b) → r ≡ madeOf (spec.smallerUnit rows a b)) ⌝ }
+{
     if o.refusal != 0 {
         return units::lists::refused(o.refusal);
     }
@@ -55,10 +65,16 @@ pub fn smaller_unit(rows: Rows, a: Factors, b: Factors) -> Made
     }
 }
 
-pub fn is_multiple_of(rows: Rows, a: Factors, b: Factors) -> Multiple
-    ensures { λ r. ⌜ r ≡ multipleIs (spec.multiple rows a b) ⌝ }
+pub fn smaller_unit(rows: Rows, a: Factors, b: Factors) -> Made
+    ensures { λ r. ⌜ r ≡ madeOf (spec.smallerUnit rows a b) ⌝ }
 {
     let o = super::opening::open_lists(rows, a, b);
+    smaller_unit_over(o)
+}
+
+pub fn is_multiple_of_over(o: Opened) -> Multiple
+    ensures { λ r. ⌜ ((rows : Rowsᵛ) (a b : Factorsᵛ) → o ≡ openedOf (baseRows rows) (opening rows a b) → r ≡ multipleIs (spec.multiple rows a b)) ⌝ }
+{
     if o.refusal != 0 {
         return Multiple::Refused(o.refusal);
     }
@@ -66,4 +82,11 @@ pub fn is_multiple_of(rows: Rows, a: Factors, b: Factors) -> Multiple
     let y = o.b;
     let s = o.slots;
     reduction::multiples::is_multiple_of(x, y, s.len)
+}
+
+pub fn is_multiple_of(rows: Rows, a: Factors, b: Factors) -> Multiple
+    ensures { λ r. ⌜ r ≡ multipleIs (spec.multiple rows a b) ⌝ }
+{
+    let o = super::opening::open_lists(rows, a, b);
+    is_multiple_of_over(o)
 }

@@ -1,14 +1,18 @@
 // Powers of quantities (01, "The refusals", "Powers and scales", last sentence of "Canonical form").
-// Public: `checked_power`. It asks nothing of its caller.
+// Public: `checked_power`, and its half `checked_power_over` for a table and lists that are opened already. Neither asks anything of its caller.
 ghost use mathlib.Core.Path.{_≡_};
 ghost use Prim.Native.Nat.{_≤_};
+ghost use Rattle.units.specs.declared.Rows.{Rows as Rowsᵛ};
 ghost use Rattle.units.specs.Lists.{listOf};
+ghost use Rattle.lists.specs.Opening.{baseRows, opening, openedOf};
 ghost use Rattle.values.specs.Quantities.{answeredOf};
 ghost use Rattle.powers.specs.Powers as powers;
 ghost use Rattle.powers.specs.Calls as spec;
 use conversion::convert::Converted;
 use exponents::Exponent;
+use exponents::refusals::SHAPE;
 use exponents::refusals::ZERONEG;
+use lists::opening::Opened;
 use units::Factors;
 use units::Quantity;
 use units::Rows;
@@ -41,13 +45,10 @@ fn raised_to(value: f64, l: Factors, x: f64) -> Answer
     }
 }
 
-// The exponent is a quantity: it is converted to the empty list first.
-pub fn checked_power(rows: Rows, q: Quantity, p: Quantity) -> Answer
-    ensures { λ r. ⌜ r ≡ answeredOf (spec.checkedPower rows q p) ⌝ }
+// The exponent is a quantity: it is converted to the empty list first. Over the opened table and lists.
+pub fn checked_power_over(o: Opened, q: Quantity, p: Quantity) -> Answer
+    ensures { λ r. ⌜ ((rows : Rowsᵛ) → o ≡ openedOf (baseRows rows) (opening rows (q .unit) (p .unit)) → r ≡ answeredOf (spec.checkedPower rows q p)) ⌝ }
 {
-    let u = q.unit;
-    let w = p.unit;
-    let o = lists::opening::open_lists(rows, u, w);
     if o.refusal != 0 {
         return answers::refused(o.refusal);
     }
@@ -60,5 +61,18 @@ pub fn checked_power(rows: Rows, q: Quantity, p: Quantity) -> Answer
         return answers::refused(conversion::convert::refusal_of(c));
     };
     let l = lists::opening::factors_of(a);
+    // no opened list is longer
+    if 16 < l.len {
+        return answers::refused(SHAPE);
+    }
     raised_to(q.value, l, x)
+}
+
+pub fn checked_power(rows: Rows, q: Quantity, p: Quantity) -> Answer
+    ensures { λ r. ⌜ r ≡ answeredOf (spec.checkedPower rows q p) ⌝ }
+{
+    let u = q.unit;
+    let w = p.unit;
+    let o = lists::opening::open_lists(rows, u, w);
+    checked_power_over(o, q, p)
 }

@@ -1,6 +1,8 @@
 // Equality and order of quantities (01, "Conversion, sums, comparison"): the second is converted to the first's list.
 ghost use mathlib.Core.Path.{_≡_};
+ghost use Rattle.units.specs.declared.Rows.{Rows as Rowsᵛ};
 ghost use Rattle.canonical.specs.Equality.{verdictOf};
+ghost use Rattle.lists.specs.Opening.{baseRows, opening, openedOf};
 ghost use Rattle.quantities.specs.Comparisons as comparisons;
 ghost use Rattle.quantities.specs.Comparisons.{comparedOf};
 ghost use Rattle.quantities.specs.Calls as spec;
@@ -8,6 +10,7 @@ use canonical::equality::Verdict;
 use conversion::convert::Converted;
 use exponents::refusals::NAN;
 use exponents::refusals::UNITS;
+use lists::opening::Opened;
 use units::Quantity;
 use units::Rows;
 
@@ -33,12 +36,10 @@ fn is_equal(x: f64, c: Converted) -> Verdict
     if x == y { Verdict::Yes } else { Verdict::No }
 }
 
-pub fn equal(rows: Rows, q: Quantity, p: Quantity) -> Verdict
-    ensures { λ r. ⌜ r ≡ verdictOf (spec.equal rows q p) ⌝ }
+// Over the opened table and lists.
+pub fn equal_over(o: Opened, q: Quantity, p: Quantity) -> Verdict
+    ensures { λ r. ⌜ ((rows : Rowsᵛ) → o ≡ openedOf (baseRows rows) (opening rows (q .unit) (p .unit)) → r ≡ verdictOf (spec.equal rows q p)) ⌝ }
 {
-    let u = q.unit;
-    let w = p.unit;
-    let o = lists::opening::open_lists(rows, u, w);
     if o.refusal != 0 {
         return Verdict::Refused(o.refusal);
     }
@@ -47,6 +48,15 @@ pub fn equal(rows: Rows, q: Quantity, p: Quantity) -> Verdict
     let s = o.slots;
     let c = conversion::convert::convert(p.value, b, a, s.len);
     is_equal(q.value, c)
+}
+
+pub fn equal(rows: Rows, q: Quantity, p: Quantity) -> Verdict
+    ensures { λ r. ⌜ r ≡ verdictOf (spec.equal rows q p) ⌝ }
+{
+    let u = q.unit;
+    let w = p.unit;
+    let o = lists::opening::open_lists(rows, u, w);
+    equal_over(o, q, p)
 }
 
 // The order of two values; NAN where one is a NaN.
@@ -66,13 +76,10 @@ fn ordered(x: f64, y: f64) -> Compared
     }
 }
 
-// `partial_cmp_preserve_nan`
-pub fn compare(rows: Rows, q: Quantity, p: Quantity) -> Compared
-    ensures { λ r. ⌜ r ≡ comparedOf (spec.compare rows q p) ⌝ }
+// `partial_cmp_preserve_nan`, over the opened table and lists.
+pub fn compare_over(o: Opened, q: Quantity, p: Quantity) -> Compared
+    ensures { λ r. ⌜ ((rows : Rowsᵛ) → o ≡ openedOf (baseRows rows) (opening rows (q .unit) (p .unit)) → r ≡ comparedOf (spec.compare rows q p)) ⌝ }
 {
-    let u = q.unit;
-    let w = p.unit;
-    let o = lists::opening::open_lists(rows, u, w);
     if o.refusal != 0 {
         return Compared::Refused(o.refusal);
     }
@@ -87,4 +94,14 @@ pub fn compare(rows: Rows, q: Quantity, p: Quantity) -> Compared
         return Compared::Refused(conversion::convert::refusal_of(c));
     };
     ordered(q.value, y)
+}
+
+// `partial_cmp_preserve_nan`
+pub fn compare(rows: Rows, q: Quantity, p: Quantity) -> Compared
+    ensures { λ r. ⌜ r ≡ comparedOf (spec.compare rows q p) ⌝ }
+{
+    let u = q.unit;
+    let w = p.unit;
+    let o = lists::opening::open_lists(rows, u, w);
+    compare_over(o, q, p)
 }

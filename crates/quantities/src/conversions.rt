@@ -1,19 +1,22 @@
 // A quantity in the units of a list (01, "Conversion, sums, comparison").
 ghost use mathlib.Core.Path.{_≡_};
+ghost use Rattle.units.specs.declared.Factors.{Factors as Factorsᵛ};
+ghost use Rattle.units.specs.declared.Rows.{Rows as Rowsᵛ};
+ghost use Rattle.lists.specs.Opening.{baseRows, opening, openedOf};
 ghost use Rattle.values.specs.Quantities.{answeredOf};
 ghost use Rattle.quantities.specs.Calls as spec;
 use conversion::convert::Converted;
+use lists::opening::Opened;
 use units::Factors;
 use units::Quantity;
 use units::Rows;
 use values::answers;
 use values::answers::Answer;
 
-pub fn convert_to(rows: Rows, q: Quantity, target: Factors) -> Answer
-    ensures { λ r. ⌜ r ≡ answeredOf (spec.convertTo rows q target) ⌝ }
+// Over the opened table and lists.
+pub fn convert_to_over(o: Opened, q: Quantity) -> Answer
+    ensures { λ r. ⌜ ((rows : Rowsᵛ) (target : Factorsᵛ) → o ≡ openedOf (baseRows rows) (opening rows (q .unit) target) → r ≡ answeredOf (spec.convertTo rows q target)) ⌝ }
 {
-    let u = q.unit;
-    let o = lists::opening::open_lists(rows, u, target);
     if o.refusal != 0 {
         return answers::refused(o.refusal);
     }
@@ -26,4 +29,12 @@ pub fn convert_to(rows: Rows, q: Quantity, target: Factors) -> Answer
     };
     let l = lists::opening::factors_of(b);
     answers::with_mark(v, l, true)
+}
+
+pub fn convert_to(rows: Rows, q: Quantity, target: Factors) -> Answer
+    ensures { λ r. ⌜ r ≡ answeredOf (spec.convertTo rows q target) ⌝ }
+{
+    let u = q.unit;
+    let o = lists::opening::open_lists(rows, u, target);
+    convert_to_over(o, q)
 }

@@ -4,6 +4,7 @@ use mathlib.Core.Bool.{Bool, true, false, _&&_, _||_}
 use mathlib.Core.List.{List, [], _∷_}
 use Prim.Native.Nat.{ℕ, suc}
 use lib.Dec.{eqb, ltb}
+use lib.IntN.{ℤ}
 use lib.Ieee.{Float, ofBits, isNan, lt, sub, mul}
 use lib.Ieee as ieee
 use lib.ListN.{length, take, getD}
@@ -17,9 +18,9 @@ use Rattle.units.specs.declared.Candidates.{Candidates}
 use Rattle.units.specs.declared.Rows.{Rows}
 use Rattle.units.specs.Lists.{checked}
 use Rattle.tables.specs.declared.Slot.{Slot}
-use Rattle.tables.specs.declared.Table.{Table}
 use Rattle.tables.specs.Lists.{base}
-use Rattle.tables.specs.Rows.{pick, Facts, nobody, scaleAt, admitted, admit, packExps, tableOf}
+use Rattle.tables.specs.Rows.{pick, Facts, nobody, scaleAt, admitted, admit, packExps}
+use Rattle.tables.specs.Pages.{Paged}
 use Rattle.tables.specs.Items.{View}
 use Rattle.tables.specs.Scale.{binary64, scale}
 use Rattle.canonical.specs.Canonical.{sameAll}
@@ -126,10 +127,11 @@ plainView ks = record {
   base = λ r. getD ks r nobody .base;
 }
 
--- the table tb, admitted as t: its rows are known as ks
-pub record Held (tb : Rows) (ks : List Facts) (t : Table) : Type 0 where
+-- the table tb is admitted: its rows are known as ks, n of them base, and held in the five arrays
+pub record Held (tb : Rows) (ks : List Facts) (n : ℕ) (nums : List ℤ) (dens : List ℕ) (scales : List Float) (ranks : List ℕ) (based : List Bool) : Type 0 where
   pub admits : admit tb ≡ admitted ks
-  pub is : t ≡ tableOf (baseRows tb) (admitted ks)
+  pub bases : n ≡ length (baseRows tb)
+  pub paged : Paged ks nums dens scales ranks based
 
 abbrev pub turnOf : Turn → Choice
 turnOf (wins a) = record { best = quantityOf a; won = true; refusal = 0 }

@@ -10,7 +10,8 @@ ghost use Rattle.exponents.specs.declared.Exponent.{Exponent as Exponentᵛ};
 ghost use Rattle.units.specs.declared.Factor.{Factor as Factorᵛ};
 ghost use Rattle.units.specs.declared.Rows.{Rows as Rowsᵛ};
 ghost use Rattle.units.specs.Lists.{checked, pack};
-ghost use Rattle.tables.specs.Rows.{Facts, packExps};
+ghost use Rattle.tables.specs.Rows.{Facts, packExps, admitted, admit};
+ghost use Rattle.tables.specs.Pages.{Room, Paged, Pages, admittedOf};
 ghost use Rattle.tables.specs.Items.{packItems};
 ghost use Rattle.canonical.specs.Equality.{verdictOf};
 ghost use Rattle.lists.specs.Opening.{baseRows};
@@ -29,9 +30,9 @@ use exponents::Exponent;
 use exponents::refusals::SHAPE;
 use reduction::bases;
 use reduction::reduce;
+use tables::Admitted;
 use tables::Item;
 use tables::Items;
-use tables::Table;
 use tables::scales::Scaled;
 use units::Candidates;
 use units::Factors;
@@ -70,8 +71,16 @@ fn candidates_fault(rows: usize, c: Candidates) -> u32
 }
 
 // A checked list with what is known of its rows, but for their order: enough for base exponents and scale.
-fn plain(t: Table, l: Factors) -> Items
-    ensures { λ r. ⌜ ((tb : Rowsᵛ) (ks : List Facts) (fs : List Factorᵛ) → Held tb ks t → checked (length ks) l ≡ given fs → r ≡ packItems (plainView ks) fs) ⌝ }
+fn plain(
+    nums: &[i32],
+    dens: &[u32],
+    scales: &[f64],
+    ranks: &[u16],
+    based: &[bool],
+    l: Factors,
+) -> Items
+    requires { ⌜ Room (now nums) (now dens) (now scales) (now ranks) (now based) ⌝ }
+    ensures { λ r. ⌜ ((ks : List Facts) (fs : List Factorᵛ) → length ks ≤ 128 → Paged ks (now (nums .entry)) (now (dens .entry)) (now (scales .entry)) (now (ranks .entry)) (now (based .entry)) → checked (length ks) l ≡ given fs → r ≡ packItems (plainView ks) fs) ⌝ }
 {
     let n = bases::capped(l.len);
     let mut o = tables::no_items();
@@ -82,7 +91,7 @@ fn plain(t: Table, l: Factors) -> Items
         if 128 <= row {
             return tables::no_items();
         }
-        let k = tables::rows::taken(t.known[row]);
+        let k = tables::pages::known_at(nums, dens, scales, ranks, based, row);
         let e = k.exps;
         o.at[i] = Item {
             exps: e,
@@ -127,15 +136,26 @@ fn close(s: f64, t: f64) -> bool
 // ---- the candidates tested
 
 // Whether the list m has fewer factors than `most`, the base exponents xs and the scale s.
-fn fits(t: Table, m: Factors, most: usize, xs: [Exponent; 16], s: f64) -> Verdict
-    ensures { λ r. ⌜ ((tb : Rowsᵛ) (ks : List Facts) (ms : List Factorᵛ) (es : List Exponentᵛ) → Held tb ks t → checked (length ks) m ≡ given ms → xs ≡ packExps es → length es ≡ length (baseRows tb) → r ≡ verdictOf (spec.fitting (rulesIn tb ks) most es s ms)) ⌝ }
+fn fits(
+    n: usize,
+    nums: &[i32],
+    dens: &[u32],
+    scales: &[f64],
+    ranks: &[u16],
+    based: &[bool],
+    m: Factors,
+    most: usize,
+    xs: [Exponent; 16],
+    s: f64,
+) -> Verdict
+    requires { ⌜ Room (now nums) (now dens) (now scales) (now ranks) (now based) ⌝ }
+    ensures { λ r. ⌜ ((tb : Rowsᵛ) (ks : List Facts) (ms : List Factorᵛ) (es : List Exponentᵛ) → Held tb ks n (now (nums .entry)) (now (dens .entry)) (now (scales .entry)) (now (ranks .entry)) (now (based .entry)) → checked (length ks) m ≡ given ms → xs ≡ packExps es → length es ≡ length (baseRows tb) → r ≡ verdictOf (spec.fitting (rulesIn tb ks) most es s ms)) ⌝ }
 {
     if most <= m.len {
         return Verdict::No;
     }
-    let l = plain(t, m);
-    let slots = t.slots;
-    let b = bases::base_of(l, slots.len);
+    let l = plain(nums, dens, scales, ranks, based, m);
+    let b = bases::base_of(l, n);
     if b.refusal != 0 {
         return Verdict::Refused(b.refusal);
     }
@@ -155,17 +175,28 @@ fn fits(t: Table, m: Factors, most: usize, xs: [Exponent; 16], s: f64) -> Verdic
 }
 
 // v of the list l in the list m, both checked.
-fn converted(t: Table, v: f64, l: Factors, m: Factors) -> Converted
-    ensures { λ r. ⌜ ((tb : Rowsᵛ) (ks : List Facts) (ls ms : List Factorᵛ) → Held tb ks t → checked (length ks) l ≡ given ls → checked (length ks) m ≡ given ms → r ≡ convertedOf (convertIn tb ks ls ms v)) ⌝ }
+fn converted(
+    len: usize,
+    n: usize,
+    nums: &[i32],
+    dens: &[u32],
+    scales: &[f64],
+    ranks: &[u16],
+    based: &[bool],
+    v: f64,
+    l: Factors,
+    m: Factors,
+) -> Converted
+    requires { ⌜ Room (now nums) (now dens) (now scales) (now ranks) (now based) ⌝ }
+    ensures { λ r. ⌜ ((tb : Rowsᵛ) (ks : List Facts) (ls ms : List Factorᵛ) → len ≡ length ks → Held tb ks n (now (nums .entry)) (now (dens .entry)) (now (scales .entry)) (now (ranks .entry)) (now (based .entry)) → checked (length ks) l ≡ given ls → checked (length ks) m ≡ given ms → r ≡ convertedOf (convertIn tb ks ls ms v)) ⌝ }
 {
-    let o = resolution::resolve(t, l, m);
+    let o = resolution::resolve(len, nums, dens, scales, ranks, based, l, m);
     if o.refusal != 0 {
         return Converted::Refused(o.refusal);
     }
     let a = o.a;
     let b = o.b;
-    let slots = t.slots;
-    convert::convert(v, a, b, slots.len)
+    convert::convert(v, a, b, n)
 }
 
 // ---- the candidates in turn
@@ -219,15 +250,29 @@ fn of_list(v: f64, m: Factors) -> Quantity
     }
 }
 
-// The list m after the best so far. `now` has the base exponents xs and the scale s.
-fn turn(t: Table, now: Quantity, best: Quantity, m: Factors, xs: [Exponent; 16], s: f64) -> Choice
-    ensures { λ r. ⌜ ((tb : Rowsᵛ) (ks : List Facts) (ls bs ms : List Factorᵛ) (es : List Exponentᵛ) → Held tb ks t → checked (length ks) (now .unit) ≡ given ls → best ≡ fresh (best .value) bs → checked (length ks) m ≡ given ms → xs ≡ packExps es → length es ≡ length (baseRows tb) → r ≡ choiceOf (spec.turn (rulesIn tb ks) es s (now .value, ls) (best .value, bs) ms)) ⌝ }
+// The list m after the best so far. `rest` has the base exponents xs and the scale s.
+fn turn(
+    len: usize,
+    n: usize,
+    nums: &[i32],
+    dens: &[u32],
+    scales: &[f64],
+    ranks: &[u16],
+    based: &[bool],
+    rest: Quantity,
+    best: Quantity,
+    m: Factors,
+    xs: [Exponent; 16],
+    s: f64,
+) -> Choice
+    requires { ⌜ Room (now nums) (now dens) (now scales) (now ranks) (now based) ⌝ }
+    ensures { λ r. ⌜ ((tb : Rowsᵛ) (ks : List Facts) (ls bs ms : List Factorᵛ) (es : List Exponentᵛ) → len ≡ length ks → Held tb ks n (now (nums .entry)) (now (dens .entry)) (now (scales .entry)) (now (ranks .entry)) (now (based .entry)) → checked (length ks) (rest .unit) ≡ given ls → best ≡ fresh (best .value) bs → checked (length ks) m ≡ given ms → xs ≡ packExps es → length es ≡ length (baseRows tb) → r ≡ choiceOf (spec.turn (rulesIn tb ks) es s (rest .value, ls) (best .value, bs) ms)) ⌝ }
 {
-    let l = now.unit;
-    let f = fits(t, m, l.len, xs, s);
+    let l = rest.unit;
+    let f = fits(n, nums, dens, scales, ranks, based, m, l.len, xs, s);
     match f {
         Verdict::Yes => {
-            let y = converted(t, now.value, l, m);
+            let y = converted(len, n, nums, dens, scales, ranks, based, rest.value, l, m);
             let Converted::Value(z) = y else {
                 return no_choice(convert::refusal_of(y));
             };
@@ -246,11 +291,24 @@ fn turn(t: Table, now: Quantity, best: Quantity, m: Factors, xs: [Exponent; 16],
     }
 }
 
-// The candidates in turn, the best being `now` at first.
-fn chosen(t: Table, now: Quantity, xs: [Exponent; 16], s: f64, c: Candidates) -> Answer
-    ensures { λ r. ⌜ ((tb : Rowsᵛ) (ks : List Facts) (ls : List Factorᵛ) (ms : List (List Factorᵛ)) (es : List Exponentᵛ) → Held tb ks t → now ≡ fresh (now .value) ls → checked (length ks) (now .unit) ≡ given ls → spec.candidateLists (length ks) c ≡ given ms → xs ≡ packExps es → length es ≡ length (baseRows tb) → r ≡ answeredOf (map quantityOf (spec.chosen (rulesIn tb ks) es s (now .value, ls) (now .value, ls) ms))) ⌝ }
+// The candidates in turn, the best being `rest` at first.
+fn chosen(
+    len: usize,
+    n: usize,
+    nums: &[i32],
+    dens: &[u32],
+    scales: &[f64],
+    ranks: &[u16],
+    based: &[bool],
+    rest: Quantity,
+    xs: [Exponent; 16],
+    s: f64,
+    c: Candidates,
+) -> Answer
+    requires { ⌜ Room (now nums) (now dens) (now scales) (now ranks) (now based) ⌝ }
+    ensures { λ r. ⌜ ((tb : Rowsᵛ) (ks : List Facts) (ls : List Factorᵛ) (ms : List (List Factorᵛ)) (es : List Exponentᵛ) → len ≡ length ks → Held tb ks n (now (nums .entry)) (now (dens .entry)) (now (scales .entry)) (now (ranks .entry)) (now (based .entry)) → rest ≡ fresh (rest .value) ls → checked (length ks) (rest .unit) ≡ given ls → spec.candidateLists (length ks) c ≡ given ms → xs ≡ packExps es → length es ≡ length (baseRows tb) → r ≡ answeredOf (map quantityOf (spec.chosen (rulesIn tb ks) es s (rest .value, ls) (rest .value, ls) ms))) ⌝ }
 {
-    let mut o = chose(now, false);
+    let mut o = chose(rest, false);
     let mut i: usize = 0;
     while i < 32 {
         if c.len <= i {
@@ -259,7 +317,7 @@ fn chosen(t: Table, now: Quantity, xs: [Exponent; 16], s: f64, c: Candidates) ->
         let x = c.at[i];
         let m = x.unit;
         let b = o.best;
-        o = turn(t, now, b, m, xs, s);
+        o = turn(len, n, nums, dens, scales, ranks, based, rest, b, m, xs, s);
         if o.refusal != 0 {
             return answers::refused(o.refusal);
         }
@@ -287,17 +345,27 @@ fn is_single(l: Factors) -> bool
 }
 
 // What is left, simplified once more.
-fn registered(t: Table, now: Quantity, c: Candidates) -> Answer
-    ensures { λ r. ⌜ ((tb : Rowsᵛ) (ks : List Facts) (ls : List Factorᵛ) (ms : List (List Factorᵛ)) → Held tb ks t → now ≡ fresh (now .value) ls → checked (length ks) (now .unit) ≡ given ls → spec.candidateLists (length ks) c ≡ given ms → r ≡ answeredOf (map quantityOf (spec.registered (rulesIn tb ks) (baseRows tb) ms (now .value, ls)))) ⌝ }
+fn registered(
+    t: Admitted,
+    nums: &[i32],
+    dens: &[u32],
+    scales: &[f64],
+    ranks: &[u16],
+    based: &[bool],
+    rest: Quantity,
+    c: Candidates,
+) -> Answer
+    requires { ⌜ Room (now nums) (now dens) (now scales) (now ranks) (now based) ⌝ }
+    ensures { λ r. ⌜ ((tb : Rowsᵛ) (ks : List Facts) (ls : List Factorᵛ) (ms : List (List Factorᵛ)) → t ≡ admittedOf (baseRows tb) (admitted ks) → Held tb ks (length (baseRows tb)) (now (nums .entry)) (now (dens .entry)) (now (scales .entry)) (now (ranks .entry)) (now (based .entry)) → rest ≡ fresh (rest .value) ls → checked (length ks) (rest .unit) ≡ given ls → spec.candidateLists (length ks) c ≡ given ms → r ≡ answeredOf (map quantityOf (spec.registered (rulesIn tb ks) (baseRows tb) ms (rest .value, ls)))) ⌝ }
 {
-    let l = now.unit;
+    let l = rest.unit;
     if l.len < 2 {
         return Answer {
-            quantity: now,
+            quantity: rest,
             refusal: 0,
         };
     }
-    let p = plain(t, l);
+    let p = plain(nums, dens, scales, ranks, based, l);
     let slots = t.slots;
     let b = bases::base_of(p, slots.len);
     if b.refusal != 0 {
@@ -309,28 +377,61 @@ fn registered(t: Table, now: Quantity, c: Candidates) -> Answer
         Scaled::Value(s) => {
             let u = reduce::base_factors(slots, e);
             if is_single(u) & near_one(s) {
-                let z = converted(t, now.value, l, u);
+                let z = converted(
+                    t.len,
+                    slots.len,
+                    nums,
+                    dens,
+                    scales,
+                    ranks,
+                    based,
+                    rest.value,
+                    l,
+                    u,
+                );
                 let Converted::Value(w) = z else {
                     return answers::refused(convert::refusal_of(z));
                 };
                 return answers::with_mark(w, u, true);
             }
-            chosen(t, now, e, s, c)
+            chosen(
+                t.len,
+                slots.len,
+                nums,
+                dens,
+                scales,
+                ranks,
+                based,
+                rest,
+                e,
+                s,
+                c,
+            )
         }
         Scaled::Refused(r) => answers::refused(r),
     }
 }
 
-pub fn full_simplify_with(rows: Rows, q: Quantity, c: Candidates) -> Answer
-    ensures { λ r. ⌜ r ≡ answeredOf (calls.fullSimplifyWith rows q c) ⌝ }
+// Over an admitted table.
+pub fn full_simplify_with_over(
+    t: Admitted,
+    nums: &[i32],
+    dens: &[u32],
+    scales: &[f64],
+    ranks: &[u16],
+    based: &[bool],
+    q: Quantity,
+    c: Candidates,
+) -> Answer
+    requires { ⌜ Room (now nums) (now dens) (now scales) (now ranks) (now based) ⌝ }
+    ensures { λ r. ⌜ ((rows : Rowsᵛ) → t ≡ admittedOf (baseRows rows) (admit rows) → Pages (admit rows) (now (nums .entry)) (now (dens .entry)) (now (scales .entry)) (now (ranks .entry)) (now (based .entry)) → r ≡ answeredOf (calls.fullSimplifyWith rows q c)) ⌝ }
 {
-    let t = tables::admission::admit(rows);
     if t.refusal != 0 {
         return answers::refused(t.refusal);
     }
     let u = q.unit;
     let none = units::lists::empty();
-    let o = resolution::resolve(t, u, none);
+    let o = resolution::resolve(t.len, nums, dens, scales, ranks, based, u, none);
     if o.refusal != 0 {
         return answers::refused(o.refusal);
     }
@@ -345,9 +446,28 @@ pub fn full_simplify_with(rows: Rows, q: Quantity, c: Candidates) -> Answer
         if s.refusal != 0 {
             return s;
         }
-        let now = s.quantity;
-        return registered(t, now, c);
+        let rest = s.quantity;
+        return registered(t, nums, dens, scales, ranks, based, rest, c);
     }
     let l = lists::opening::factors_of(a);
     answers::with_mark(q.value, l, false)
+}
+
+pub fn full_simplify_with(rows: Rows, q: Quantity, c: Candidates) -> Answer
+    ensures { λ r. ⌜ r ≡ answeredOf (calls.fullSimplifyWith rows q c) ⌝ }
+{
+    let mut nums = [0i32; 2048];
+    let mut dens = [1u32; 2048];
+    let mut scales = [1.0; 128];
+    let mut ranks = [0u16; 128];
+    let mut based = [false; 128];
+    let t = tables::admission::admit(
+        rows,
+        &mut nums,
+        &mut dens,
+        &mut scales,
+        &mut ranks,
+        &mut based,
+    );
+    full_simplify_with_over(t, &nums, &dens, &scales, &ranks, &based, q, c)
 }

@@ -1,43 +1,35 @@
--- The factors of two checked lists gathered with what an admitted table knows of their rows: what the code reads of the lists and of the table, and what it answers.
-use mathlib.Core.Path.{_≡_, sym, _∙_, ap, ap₂}
+-- The factors of two checked lists gathered with the rows and keys that an admitted table has for them: what the code reads of the lists and of the table, and what it answers.
+use mathlib.Core.Path.{_≡_, sym, _∙_, ap, ap₂, subst}
 use mathlib.Core.Bool.{Bool, false}
-use mathlib.Core.List.{List, [], _∷_, _++_, map, map-append}
-use Prim.Native.Nat.{ℕ, _+_, _-_, _<_, _≤_}
+use mathlib.Core.Logic.{⊎-elim}
+use mathlib.Core.List.{List, [], _∷_, _++_}
+use Prim.Native.Nat.{ℕ, _+_, _-_, _*_, _<_, _≤_}
 use native.Mathlib.Omega.{arith}
-use native.Mathlib.Numerals.{add-one}
-use lib.ListN.{length, take, drop, getD, set, length-map, length-append, List·getD-append}
-use lib.Seq.{getD-take, getD-append-add, take-suc, take-suc-set, take-at, take-all, drop-at}
+use native.Mathlib.Nat.{eq-or-lt-of-le}
+use lib.IntN.{ℤ}
+use lib.ListN.{length, take, drop, getD, set, length-append, length-drop, take-append-drop, drop-of-length-le, List·getD-append}
+use lib.Seq.{sets, sets-eq, getD-take, getD-append-add, getD-set-same, getD-set-other, length-take-le, take-append-le, drop-append-le, take-at, take-all, drop-at}
 use borrow.Author.Tests.{ltb-true, not-false}
 use Rattle.exponents.specs.Outcome.{Outcome, refusalOf}
+use Rattle.exponents.specs.declared.Exponent.{Exponent}
 use Rattle.exponents.proofs.Holds.{Holds, held, take-out, holds-unless}
 use Rattle.exponents.proofs.InRange.{or-left, or-right}
 use Rattle.exponents.proofs.Numbers.{refuses}
 use Rattle.units.specs.declared.Factor.{Factor}
 use Rattle.units.specs.declared.Factors.{Factors}
-use Rattle.units.specs.Lists.{listOf, some, unknown, checked, both}
+use Rattle.units.specs.Lists.{noFactor, listOf, some, unknown, checked, both}
 use Rattle.units.proofs.Laws.{listed, none-at}
 use Rattle.units.proofs.Checked.{short, passes, first-passed, second-passed, both-pass}
-use Rattle.tables.specs.declared.Slot.{Slot}
-use Rattle.tables.specs.declared.Known.{Known}
-use Rattle.tables.specs.declared.Table.{Table}
 use Rattle.tables.specs.declared.Items.{Items}
 use Rattle.tables.specs.declared.keys.Key.{Key}
-use Rattle.resolution.specs.declared.Name.{Name}
-use Rattle.resolution.specs.declared.Resolved.{Resolved}
 use Rattle.tables.specs.Key.{key, keyedOf}
-use Rattle.tables.specs.Rows.{Facts, nobody, admitted, knownOf, packKnown, tableOf}
+use Rattle.tables.specs.Orders.{keyAt}
+use Rattle.tables.specs.Rows.{Facts, nobody, packExps}
 use Rattle.tables.specs.Items.{viewOf, packItems}
-use Rattle.resolution.specs.Resolve.{Keyed, packKey, nameBy, nameOf, unresolved, resolvedOf}
+use Rattle.tables.proofs.Places.{rest}
+use Rattle.resolution.specs.declared.Resolved.{Resolved}
+use Rattle.resolution.specs.Resolve.{Keyed, Named, Within, packKey, unresolved, resolvedOf}
 use Rattle.resolution.proofs.KeyPads.{key-packed}
-use Rattle.tables.proofs.Terms.{get-map}
-
--- ---- an array filled, one element more
-pub gather-on : {A B : Type 0} (f : A → B) (l : List A) (w : List B) (i : ℕ) (d : A) (x : B) → i < length l → i < length w → x ≡ f (getD l i d) → take i w ≡ map f (take i l) → take (i + 1) (set w i x) ≡ map f (take (i + 1) l)
-gather-on f l w i d x h k e p =
-    ap (λ n. take n (set w i x)) (add-one i)
-    ∙ take-suc-set w i x k
-    ∙ ap₂ (λ s t. s ++ (t ∷ [])) p e
-    ∙ sym (ap (λ n. map f (take n l)) (add-one i) ∙ ap (map f) (take-suc l i d h) ∙ map-append f (take i l) (getD l i d ∷ []))
 
 -- ---- two lists that passed, with so many rows
 
@@ -94,31 +86,81 @@ module _ {rows : ℕ} {a b : Factors} (g : Lists rows a b) where
       (take-out (all-known rows b) (passes rows b (second-passed rows a b (g .passed)))) in
       ltb-true _ _ (not-false _ (none-at (unknown rows) (join a b) i d (omega (arith, long-join)) none))
 
+  -- each list is a part of the join
+  pub first-part : listOf a ≡ take (a .len) (drop 0 (join a b))
+  first-part = sym (take-at (listOf a) (listOf b) (a .len) long-first)
+
+  pub second-part : listOf b ≡ take (b .len) (drop (a .len) (join a b))
+  second-part = sym (ap (take (b .len)) (drop-at (listOf a) (listOf b) (a .len) long-first) ∙ take-all (b .len) (listOf b) (omega (arith, long-second)))
+
 -- ---- an admitted table
-module _ (t : Table) (ss : List Slot) (ks : List Facts) (e : t ≡ tableOf ss (admitted ks)) (h : Keyed ks) where
-  pub rows-are : t .len ≡ length ks
-  rows-are = ap (λ (t : Table). t .len) e
 
-  module _ (f : Factor) (d k : Known) (there : f .row < t .len) (is : k ≡ getD (t .known) (f .row) d) where
-    row-at : k ≡ knownOf (getD ks (f .row) nobody)
-    unfolding packKnown
-    row-at =
-        is
-        ∙ ap (λ (t : Table). getD (t .known) (f .row) d) e
-        ∙ List·getD-append (map knownOf ks) _ d (f .row) (omega (arith, rows-are, length-map ks knownOf))
-        ∙ get-map knownOf ks (f .row) nobody d (omega (arith, rows-are))
+-- its key is worked out
+module _ {ks : List Facts} (h : Keyed ks) (r : ℕ) (there : r < length ks) (e : List Exponent) (is : e ≡ packExps (getD ks r nobody .exps)) where
+  key-at : (q : Key) → q ≡ keyedOf (key e) → q ≡ record { nums = packKey (getD ks r nobody .key); refusal = 0 }
+  key-at q w = w ∙ ap (λ e. keyedOf (key e)) is ∙ ap keyedOf (key-packed _ _ (h .keys r there))
 
-    -- its key is worked out
-    key-at : (q : Key) → q ≡ keyedOf (key (k .exps)) → q ≡ record { nums = packKey (getD ks (f .row) nobody .key); refusal = 0 }
-    unfolding knownOf
-    key-at q w = w ∙ ap (λ (k : Known). keyedOf (key (k .exps))) row-at ∙ ap keyedOf (key-packed _ _ (h .keys (f .row) (omega (arith, rows-are))))
+  pub key-there : (q : Key) → q ≡ keyedOf (key e) → q .refusal ≡ 0
+  key-there q w = ap (λ (q : Key). q .refusal) (key-at q w)
 
-    pub key-there : (q : Key) → q ≡ keyedOf (key (k .exps)) → q .refusal ≡ 0
-    key-there q w = ap (λ (q : Key). q .refusal) (key-at q w)
+  pub key-is : (q : Key) → q ≡ keyedOf (key e) → q .nums ≡ packKey (getD ks r nobody .key)
+  key-is q w = ap (λ (q : Key). q .nums) (key-at q w)
 
-    pub name-made : (q : Key) (x : Name) → q ≡ keyedOf (key (k .exps)) → x ≡ nameBy k (q .nums) f → x ≡ nameOf ks f
-    unfolding nameOf
-    name-made q x w u = u ∙ ap₂ (λ (k : Known) (q : Key). nameBy k (q .nums) f) row-at (key-at q w)
+-- ---- what is gathered, one factor more
+
+-- a key put number by number
+pub put-on : (keys k : List ℤ) (at i : ℕ) (d : ℤ) → i < length k → sets (set keys (at + i) (getD k i d)) (at + (i + 1)) (drop (i + 1) k) ≡ sets keys (at + i) (drop i k)
+put-on keys k at i d h =
+    ap (λ n. sets (set keys (at + i) (getD k i d)) n (drop (i + 1) k)) (omega arith)
+    ∙ sym (ap (sets keys (at + i)) (rest k d i h))
+
+pub put-end : (keys k : List ℤ) (at i : ℕ) → length k ≤ i → sets keys (at + i) (drop i k) ≡ keys
+put-end keys k at i h = ap (sets keys (at + i)) (drop-of-length-le k h)
+
+-- the key that is put at place i, and the keys before it
+key-here : (keys k : List ℤ) (i : ℕ) → length k ≡ 16 → i * 16 + 16 ≤ length keys → keyAt (i * 16) (sets keys (i * 16) k) ≡ k
+key-here keys k i n h =
+    let head = take (i * 16) keys in
+    let tail = drop (i * 16 + length k) keys in
+    let m = length-take-le (i * 16) keys (omega arith) in
+    ap (keyAt (i * 16)) (sets-eq k keys (i * 16) (omega arith))
+    ∙ ap (take 16) (drop-append-le (i * 16) (head ++ k) tail (omega (arith, length-append head k)) ∙ ap (λ l. l ++ tail) (drop-at head k (i * 16) m))
+    ∙ take-at k tail 16 n
+
+key-kept : (keys k : List ℤ) (i j : ℕ) → length k ≡ 16 → i * 16 + 16 ≤ length keys → j < i → keyAt (j * 16) (sets keys (i * 16) k) ≡ keyAt (j * 16) keys
+key-kept keys k i j n h p =
+    let head = take (i * 16) keys in
+    let m = length-take-le (i * 16) keys (omega arith) in
+    ap (keyAt (j * 16)) (sets-eq k keys (i * 16) (omega arith))
+    ∙ front (head ++ k) (drop (i * 16 + length k) keys) (omega (arith, length-append head k))
+    ∙ front head k (omega arith)
+    ∙ sym (front head (drop (i * 16) keys) (omega arith))
+    ∙ ap (keyAt (j * 16)) (take-append-drop (i * 16) keys)
+  where
+    front : (xs ys : List ℤ) → j * 16 + 16 ≤ length xs → keyAt (j * 16) (xs ++ ys) ≡ keyAt (j * 16) xs
+    front xs ys q = ap (take 16) (drop-append-le (j * 16) xs ys (omega arith)) ∙ take-append-le 16 (drop (j * 16) xs) ys (omega (arith, length-drop (j * 16) xs))
+
+one-more : {P : ℕ → Type 0} (i : ℕ) → ((j : ℕ) → j < i → P j) → P i → (j : ℕ) → j < i + 1 → P j
+one-more {P} i h p j q = ⊎-elim (λ e. subst P (sym e) p) (h j) (eq-or-lt-of-le (omega arith))
+
+module _ (rows : List ℕ) (i r : ℕ) (room : i < length rows) where
+  row-kept : (j : ℕ) → j < i → getD (set rows i r) j 0 ≡ getD rows j 0
+  row-kept j h = getD-set-other rows i j r 0 (λ e. omega arith)
+
+  pub within-on : r < 128 → Within i rows → Within (i + 1) (set rows i r)
+  within-on h w = one-more i (λ j q. rw (row-kept j q) (w j q)) (rw (getD-set-same rows i r 0 room) h)
+
+  pub named-on : {ks : List Facts} {l : List Factor} {keys : List ℤ} → Named ks l i rows keys → (k : List ℤ) → i < length l → i * 16 + 16 ≤ length keys → r ≡ getD l i noFactor .row → r < length ks → length k ≡ 16 →
+      k ≡ packKey (getD ks r nobody .key) → Named ks l (i + 1) (set rows i r) (sets keys (i * 16) k)
+  named-on {ks} {l} {keys} g k h space e there n is = record {
+    few = omega arith;
+    row = one-more i (λ j q. row-kept j q ∙ g .row j q) (getD-set-same rows i r 0 room ∙ e);
+    known = one-more i (g .known) (subst (λ r. r < length ks) e there);
+    key = one-more i (λ j q. key-kept keys k i j n space q ∙ g .key j q) (key-here keys k i n space ∙ is ∙ ap (λ r. packKey (getD ks r nobody .key)) e);
+  }
+
+pub named-none : (ks : List Facts) (l : List Factor) (rows : List ℕ) (keys : List ℤ) → Named ks l 0 rows keys
+named-none ks l rows keys = record { few = omega arith; row = λ j h. absurd (omega arith); known = λ j h. absurd (omega arith); key = λ j h. absurd (omega arith) }
 
 -- ---- the answer
 
@@ -126,14 +168,6 @@ pub not-resolved : (ks : List Facts) (o : Outcome (List Factor × List Factor)) 
 not-resolved ks o n e h = let r = refuses o n e h in ap unresolved (sym (r .numbered)) ∙ sym (ap (resolvedOf ks) (r .is))
 
 -- x and y are the parts of the join
-pub resolved-by : {rows : ℕ} {a b : Factors} → Lists rows a b → (ks : List Facts) (x y : Items) →
-    x ≡ packItems (viewOf ks (join a b)) (take (a .len) (join a b)) →
-    y ≡ packItems (viewOf ks (join a b)) (drop (a .len) (take (a .len + b .len) (join a b))) →
+pub resolved-by : {rows : ℕ} {a b : Factors} → Lists rows a b → (ks : List Facts) (x y : Items) → x ≡ packItems (viewOf ks (join a b)) (listOf a) → y ≡ packItems (viewOf ks (join a b)) (listOf b) →
     _≡_ {A = Resolved} (record { a = x; b = y; refusal = 0 }) (resolvedOf ks (both rows a b))
-resolved-by {rows} {a} {b} g ks x y p q =
-    ap₂ (λ (x y : Items). record { a = x; b = y; refusal = 0 })
-    (p ∙ ap (packItems (viewOf ks (join a b))) (take-at (listOf a) (listOf b) (a .len) (long-first g)))
-    (q
-    ∙ ap (λ l. packItems (viewOf ks (join a b)) (drop (a .len) l)) (take-all (a .len + b .len) (join a b) (omega (arith, long-join g)))
-    ∙ ap (packItems (viewOf ks (join a b))) (drop-at (listOf a) (listOf b) (a .len) (long-first g)))
-    ∙ sym (ap (resolvedOf ks) (both-pass rows a b (g .passed)))
+resolved-by {rows} {a} {b} g ks x y p q = ap₂ (λ (x y : Items). record { a = x; b = y; refusal = 0 }) p q ∙ sym (ap (resolvedOf ks) (both-pass rows a b (g .passed)))

@@ -1,6 +1,6 @@
 pub mod KeyPads
 pub mod Before
-pub mod Naming
+pub mod Counting
 pub mod Resolving
 pub mod Gathering
 pub mod Keyed

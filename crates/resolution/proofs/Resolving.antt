@@ -1,31 +1,23 @@
--- Lists resolved, as the code does it: a part of the named factors made a packed list, and the names gathered from the table.
+-- Lists resolved, as the code does it: a factor with what is known of its row, and a list packed one factor after the other.
 use mathlib.Core.Path.{_≡_, refl, sym, _∙_, ap, ap₂}
 use mathlib.Core.List.{List, [], _∷_, _++_, map, map-append}
-use Prim.Native.Nat.{ℕ, _+_, _-_, _<_, _≤_}
+use Prim.Native.Nat.{ℕ, _+_, _-_, _<_}
 use native.Mathlib.Omega.{arith}
 use native.Mathlib.Numerals.{add-one}
-use lib.ListN.{length, take, drop, set, getD, replicate, length-map, length-append, length-drop}
-use lib.Seq.{take-suc, length-take-le, drop-append-le, drop-length}
+use lib.IntN.{ℤ}
+use lib.ListN.{length, take, drop, set, getD, replicate, length-map, length-append}
+use lib.Seq.{take-suc, length-take-le, getD-take, getD-drop}
 use Rattle.units.specs.declared.Factor.{Factor}
+use Rattle.units.specs.declared.Factors.{Factors}
+use Rattle.units.specs.Lists.{noFactor, listOf}
 use Rattle.units.proofs.Laws.{stored}
-use Rattle.tables.specs.Items.{View, itemOf, noItem, packItems, packed}
-use Rattle.resolution.specs.Resolve.{noItems}
+use Rattle.tables.specs.Rows.{Facts, nobody, knownOf, scaleAt}
+use Rattle.tables.specs.Items.{View, viewOf, itemOf, noItem, packItems, packed}
+use Rattle.tables.proofs.Terms.{get-any}
+use Rattle.resolution.specs.Resolve.{Named, countOf, itemBy, noItems}
+use Rattle.resolution.specs.declared.Count.{Count}
 use Rattle.tables.specs.declared.Item.{Item}
 use Rattle.tables.specs.declared.Items.{Items}
-
--- ---- a part of a list, one factor more
-module _ (l : List Factor) (s : ℕ) where
-  pub part-none : s ≤ length l → drop s (take s l) ≡ []
-  part-none h = ap (λ n. drop n (take s l)) (sym (length-take-le s l h)) ∙ drop-length (take s l)
-
-  module _ (i : ℕ) (h : s ≤ i) where
-    pub long-part : i ≤ length l → length (drop s (take i l)) ≡ i - s
-    long-part k = length-drop s (take i l) ∙ ap (λ n. n - s) (length-take-le i l k)
-
-    pub part-on : (d : Factor) → i < length l → drop s (take (i + 1) l) ≡ drop s (take i l) ++ (getD l i d ∷ [])
-    part-on d k =
-        let n = length-take-le i l (omega arith) in
-        ap (λ n. drop s (take n l)) (add-one i) ∙ ap (drop s) (take-suc l i d k) ∙ drop-append-le s (take i l) (getD l i d ∷ []) (omega arith)
 
 -- ---- packed lists
 module _ (v : View) where
@@ -45,10 +37,33 @@ module _ (v : View) where
       ∙ ap (λ k. map (itemOf v) (fs ++ (f ∷ [])) ++ replicate (16 - k) noItem) (length-map (fs ++ (f ∷ [])) (itemOf v)))
       (sym (length-append fs (f ∷ []) ∙ ap (λ k. k + 1) e))
 
-  -- one turn of the loop: o holds the factors from s to i
-  pub items-on : (l : List Factor) (s i : ℕ) (d : Factor) (o : Items) (x : Item) → s ≤ i → i < length l → i < s + 16 → o ≡ packItems v (drop s (take i l)) → x ≡ itemOf v (getD l i d) →
-      _≡_ {A = Items} (record { at = set (o .at) (i - s) x; len = i - s + 1 }) (packItems v (drop s (take (i + 1) l)))
-  items-on l s i d o x h k m e q =
-      ap₂ (λ (o : Items) (x : Item). record { at = set (o .at) (i - s) x; len = i - s + 1 }) e q
-      ∙ push-items (drop s (take i l)) (getD l i d) (i - s) (long-part l s i h (omega arith)) (omega arith)
-      ∙ ap (packItems v) (sym (part-on l s i h d k))
+  -- one turn of the loop: o holds the factors before i
+  pub items-more : (fs : List Factor) (i : ℕ) (d : Factor) (o : Items) (x : Item) → i < length fs → i < 16 → o ≡ packItems v (take i fs) → x ≡ itemOf v (getD fs i d) →
+      _≡_ {A = Items} (record { at = set (o .at) i x; len = i + 1 }) (packItems v (take (i + 1) fs))
+  items-more fs i d o x h k e q =
+      ap₂ (λ (o : Items) (x : Item). record { at = set (o .at) i x; len = i + 1 }) e q
+      ∙ push-items (take i fs) (getD fs i d) i (length-take-le i fs (omega arith)) k
+      ∙ ap (packItems v) (sym (ap (λ n. take n fs) (add-one i) ∙ take-suc fs i d h))
+
+-- ---- a factor of a list that stands from place s on among all
+
+pub row-any : (l : List Factor) (i : ℕ) (d e : Factor) → i < length l → getD l i d .row ≡ getD l i e .row
+row-any l i d e h = ap (λ (f : Factor). f .row) (get-any l i d e h)
+
+module _ {ks : List Facts} {fs : List Factor} {n : ℕ} {rows : List ℕ} {keys : List ℤ} (g : Named ks fs n rows keys) (l : Factors) (s : ℕ) (part : listOf l ≡ take (l .len) (drop s fs)) (i : ℕ) (h : i < l .len) (k : s + i < n) where
+  row-of : (d : Factor) → getD rows (s + i) 0 ≡ getD (l .at) i d .row
+  row-of d =
+      g .row (s + i) k
+      ∙ row-any fs (s + i) noFactor d (omega (arith, g .few))
+      ∙ ap (λ (f : Factor). f .row) (sym (sym (getD-take (l .len) (l .at) i d h) ∙ ap (λ m. getD m i d) part ∙ getD-take (l .len) (drop s fs) i d h ∙ getD-drop s fs i d))
+
+  pub row-there : getD rows (s + i) 0 < length ks
+  row-there = rw (g .row (s + i) k) (g .known (s + i) k)
+
+  pub item-of : (d : Factor) (c : Count) (x : Item) → c ≡ countOf ks fs (getD rows (s + i) 0) → x ≡ itemBy (knownOf (getD ks (getD rows (s + i) 0) nobody)) (getD (l .at) i d) c → x ≡ itemOf (viewOf ks fs) (getD (listOf l) i d)
+  unfolding knownOf scaleAt
+  item-of d c x e q =
+      q
+      ∙ ap (itemBy (knownOf (getD ks (getD rows (s + i) 0) nobody)) (getD (l .at) i d)) e
+      ∙ ap (λ r. itemBy (knownOf (getD ks r nobody)) (getD (l .at) i d) (countOf ks fs r)) (row-of d)
+      ∙ ap (itemOf (viewOf ks fs)) (sym (getD-take (l .len) (l .at) i d h))

@@ -1,20 +1,19 @@
 -- Two lists resolved against an admitted table (01, "The refusals", "Canonical form"): what is answered, and how code counts what comes before a factor.
 use mathlib.Core.Path.{_≡_}
 use mathlib.Core.List.{List, [], _++_}
-use Prim.Native.Nat.{ℕ, _-_, _≤_, _<_, compare, Ordering}
+use Prim.Native.Nat.{ℕ, _-_, _*_, _≤_, _<_, Ordering}
 use lib.IntN.{ℤ, pos}
 use lib.ListN.{length, getD, replicate}
 use Rattle.exponents.specs.Outcome.{Outcome, given, refused, number}
 use Rattle.units.specs.declared.Factor.{Factor}
 use Rattle.units.specs.Lists.{noFactor}
-use Rattle.tables.specs.Orders.{then, lists, pairs}
-use Rattle.tables.specs.Key.{key, entries}
-use Rattle.tables.specs.Rows.{Facts, nobody, knownOf, blankKnown}
-use Rattle.tables.specs.Items.{isLess, tally, viewOf, packItems, packed}
+use Rattle.tables.specs.Orders.{then, keyAt}
+use Rattle.tables.specs.Key.{key}
+use Rattle.tables.specs.Rows.{Facts, nobody}
+use Rattle.tables.specs.Items.{isLess, tally, before, keyOrder, rowOrder, viewOf, packItems, packed}
 use Rattle.tables.specs.declared.Known.{Known}
 use Rattle.tables.specs.declared.Item.{Item}
 use Rattle.tables.specs.declared.Items.{Items}
-use Rattle.resolution.specs.declared.Name.{Name}
 use Rattle.resolution.specs.declared.Count.{Count}
 use Rattle.resolution.specs.declared.Resolved.{Resolved}
 
@@ -36,29 +35,29 @@ abbrev pub resolvedOf : List Facts → Outcome (List Factor × List Factor) → 
 resolvedOf ks (given p) = record { a = packItems (viewOf ks (p .0 ++ p .1)) (p .0); b = packItems (viewOf ks (p .0 ++ p .1)) (p .1); refusal = 0 }
 resolvedOf ks (refused r) = unresolved (number r)
 
--- ---- a factor with what is known of its row, as code keeps it
+-- ---- what code gathers on the way
 
 unfoldable pub packKey : List ℤ → List ℤ
 packKey k = k ++ replicate (16 - length k) (pos 0)
 
-abbrev pub nameBy : Known → List ℤ → Factor → Name
-nameBy k z f = record { exps = k .exps; key = z; factor = f; scale = k .scale; rank = k .rank; base = k .base }
+-- the rows and the keys of the first n factors of l, as code has gathered them
+pub record Named (ks : List Facts) (l : List Factor) (n : ℕ) (rows : List ℕ) (keys : List ℤ) : Type 0 where
+  pub few : n ≤ length l
+  pub row : (j : ℕ) → j < n → getD rows j 0 ≡ getD l j noFactor .row
+  pub known : (j : ℕ) → j < n → getD l j noFactor .row < length ks
+  pub key : (j : ℕ) → j < n → keyAt (j * 16) keys ≡ packKey (getD ks (getD l j noFactor .row) nobody .key)
 
-abbrev pub noName : Name
-noName = nameBy blankKnown (replicate 16 (pos 0)) noFactor
+-- the first n rows are rows that a table can have
+abbrev pub Within : ℕ → List ℕ → Type 0
+Within n rows = (j : ℕ) → j < n → getD rows j 0 < 128
 
-unfoldable pub nameOf : List Facts → Factor → Name
-nameOf ks f = nameBy (knownOf (getD ks (f .row) nobody)) (packKey (getD ks (f .row) nobody .key)) f
+-- the counts with one factor looked at, by the order of its key and by that of its rank and row
+abbrev pub countBy : Count → Ordering → Ordering → Count
+countBy c k rest = record { place = tally (isLess (then k rest)) (c .place); class = tally (isLess k) (c .class) }
 
-abbrev pub nameKeys : Name → Name → Ordering
-nameKeys r s = lists pairs (entries 0 (r .key)) (entries 0 (s .key))
+-- how many factors of l come before row r
+abbrev pub countOf : List Facts → List Factor → ℕ → Count
+countOf ks l r = record { place = before (rowOrder ks) l r; class = before (keyOrder ks) l r }
 
-abbrev pub nameOrder : Name → Name → Ordering
-nameOrder r s = then (nameKeys r s) (then (compare (r .rank) (s .rank)) (compare (r .factor .row) (s .factor .row)))
-
--- the counts of s with r looked at
-abbrev pub countBy : Count → Name → Name → Count
-countBy c r s = record { place = tally (isLess (nameOrder r s)) (c .place); class = tally (isLess (nameKeys r s)) (c .class) }
-
-abbrev pub itemBy : Name → Count → Item
-itemBy s c = record { exps = s .exps; factor = s .factor; scale = s .scale; place = c .place; class = c .class; base = s .base }
+abbrev pub itemBy : Known → Factor → Count → Item
+itemBy k f c = record { exps = k .exps; factor = f; scale = k .scale; place = c .place; class = c .class; base = k .base }

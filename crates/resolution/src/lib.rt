@@ -1,26 +1,23 @@
 // Two lists checked against an admitted table, and each factor handed out with what is known of its row (01, "The refusals", "Canonical form").
 // Public: `resolve`. Nothing above it sees the table.
 ghost use mathlib.Core.Path.{_≡_};
-ghost use mathlib.Core.List.{List, map};
-ghost use Prim.Native.Nat.{_+_, _≤_, _<_, compare};
-ghost use lib.ListN.{length, take, drop};
+ghost use mathlib.Core.List.{List};
+ghost use Prim.Native.Nat.{_+_, _≤_, _<_, compare, Ordering};
+ghost use lib.ListN.{length, getD, take, drop};
+ghost use lib.Seq.{sets};
 ghost use Rattle.units.specs.declared.Factor.{Factor as Factorᵛ};
-ghost use Rattle.units.specs.Lists.{both};
-ghost use Rattle.tables.specs.declared.Slot.{Slot as Slotᵛ};
-ghost use Rattle.tables.specs.Orders.{then};
-ghost use Rattle.tables.specs.Rows.{Facts, admitted, tableOf};
+ghost use Rattle.units.specs.Lists.{both, listOf};
+ghost use Rattle.tables.specs.Orders.{then, senseOf};
+ghost use Rattle.tables.specs.Rows.{Facts, nobody, knownOf};
+ghost use Rattle.tables.specs.Pages.{Room, Paged, Ranked};
 ghost use Rattle.tables.specs.Items.{isLess, viewOf, packItems};
-ghost use Rattle.resolution.specs.Resolve.{noName, nameBy, nameOf, itemBy, countBy, unresolved, Keyed, resolvedOf};
-use exponents::Exponent;
+ghost use Rattle.resolution.specs.Resolve.{Named, Within, countBy, countOf, itemBy, unresolved, Keyed, resolvedOf};
 use exponents::refusals::TABLE;
 use tables::Item;
 use tables::Items;
-use tables::Known;
-use tables::Table;
-use tables::keys;
 use tables::order;
 use tables::order::Sense;
-use tables::rows;
+use tables::pages;
 use units::Factor;
 use units::Factors;
 
@@ -31,54 +28,13 @@ pub struct Resolved {
     pub refusal: u32,
 }
 
-// A factor of either list, with what is known of its row.
-struct Name {
-    exps: [Exponent; 16],
-    key: [i64; 16],
-    factor: Factor,
-    scale: f64,
-    rank: u16,
-    base: bool,
-}
-
 // How many factors come before one: by key, rank and row; by key alone.
 struct Count {
     place: u32,
     class: u32,
 }
 
-// ---- a factor and its row
-
-fn named(k: Known, key: [i64; 16], f: Factor) -> Name
-    ensures { λ r. ⌜ r ≡ nameBy k key f ⌝ }
-{
-    let e = k.exps;
-    Name {
-        exps: e,
-        key: key,
-        factor: f,
-        scale: k.scale,
-        rank: k.rank,
-        base: k.base,
-    }
-}
-
-// A factor as it is. A call's result has its arrays' lengths, which an element of an array has not.
-fn taken(n: Name) -> Name
-    ensures { λ r. ⌜ r ≡ n ⌝ }
-{
-    n
-}
-
-fn no_name() -> Name
-    ensures { λ r. ⌜ r ≡ noName ⌝ }
-{
-    let none = rows::blank();
-    let f = units::lists::no_factor();
-    named(none, [0; 16], f)
-}
-
-// ---- how many come before it
+// ---- how many come before a factor
 
 // Whether a row of rank a and number r comes before one of rank b and number s.
 fn lower(a: u16, r: u32, b: u16, s: u32) -> bool
@@ -87,23 +43,18 @@ fn lower(a: u16, r: u32, b: u16, s: u32) -> bool
     (a < b) | ((a == b) & (r < s))
 }
 
-// One factor more: r comes before s, or not.
-fn counted(c: Count, r: Name, s: Name) -> Count
+// One factor more: its key's order with the other's, and whether its rank and row come before.
+fn counted(c: Count, o: Sense, low: bool) -> Count
     requires { ⌜ (c .place < 32) × (c .class < 32) ⌝ }
-    ensures { λ t. ⌜ t ≡ countBy c r s ⌝ }
+    ensures { λ t. ⌜ ((k rest : Ordering) → o ≡ senseOf k → low ≡ isLess rest → t ≡ countBy c k rest) ⌝ }
 {
-    let x = r.key;
-    let y = s.key;
-    let f = r.factor;
-    let g = s.factor;
-    let o = order::compare_keys(x, y);
     match o {
         Sense::Less => Count {
             place: c.place + 1,
             class: c.class + 1,
         },
         Sense::Equal => {
-            if lower(r.rank, f.row, s.rank, g.row) {
+            if low {
                 return Count {
                     place: c.place + 1,
                     class: c.class,
@@ -115,19 +66,23 @@ fn counted(c: Count, r: Name, s: Name) -> Count
     }
 }
 
-fn item(s: Name, c: Count) -> Item
-    ensures { λ r. ⌜ r ≡ itemBy s c ⌝ }
+// How many of the n factors named come before the one at place i. `named` has their rows, `keys` the keys of these.
+fn count_of(keys: &[i64], named: &[u32], ranks: &[u16], i: usize, n: usize) -> Count
+    requires { ⌜ (i < n) × (n ≤ 32) × (length (now keys) ≡ 512) × (length (now named) ≡ 32) × (length (now ranks) ≡ 128) × Within n (now named) ⌝ }
+    ensures { λ r. ⌜ ((ks : List Facts) (l : List Factorᵛ) → Named ks l n (now (named .entry)) (now (keys .entry)) → n ≡ length l → Ranked ks (now (ranks .entry)) → r ≡ countOf ks l (getD (now (named .entry)) i 0)) ⌝ }
 {
-    let e = s.exps;
-    let f = s.factor;
-    Item {
-        exps: e,
-        factor: f,
-        scale: s.scale,
-        place: c.place,
-        class: c.class,
-        base: s.base,
+    let s = named[i];
+    let b = ranks[s as usize];
+    let mut c = Count { place: 0, class: 0 };
+    let mut j: usize = 0;
+    while j < n {
+        let r = named[j];
+        let o = order::compare_keys(keys, j * 16, i * 16);
+        let low = lower(ranks[r as usize], r, b, s);
+        c = counted(c, o, low);
+        j += 1;
     }
+    c
 }
 
 // ---- a list
@@ -143,60 +98,114 @@ fn refused(refusal: u32) -> Resolved
     }
 }
 
-// The factors from `start` to `end` of the n that are named, each with its place and class among all.
-fn items(names: [Name; 32], start: usize, end: usize, n: usize) -> Items
-    requires { ⌜ (start ≤ end) × (end ≤ start + 16) × (end ≤ n) × (n ≤ 32) ⌝ }
-    ensures { λ r. ⌜ ((ks : List Facts) (l : List Factorᵛ) → take n names ≡ map (nameOf ks) l → r ≡ packItems (viewOf ks l) (drop start (take end l))) ⌝ }
+// A factor with what is known of its row, r.
+fn item(
+    nums: &[i32],
+    dens: &[u32],
+    scales: &[f64],
+    ranks: &[u16],
+    based: &[bool],
+    r: usize,
+    f: Factor,
+    c: Count,
+) -> Item
+    requires { ⌜ (r < 128) × Room (now nums) (now dens) (now scales) (now ranks) (now based) ⌝ }
+    ensures { λ x. ⌜ ((ks : List Facts) → Paged ks (now (nums .entry)) (now (dens .entry)) (now (scales .entry)) (now (ranks .entry)) (now (based .entry)) → r < length ks → x ≡ itemBy (knownOf (getD ks r nobody)) f c) ⌝ }
+{
+    let k = pages::known_at(nums, dens, scales, ranks, based, r);
+    let e = k.exps;
+    Item {
+        exps: e,
+        factor: f,
+        scale: k.scale,
+        place: c.place,
+        class: c.class,
+        base: k.base,
+    }
+}
+
+// The factors of l, which stand from place `from` on among the n that are named, each with its place and class among all.
+fn items(
+    l: Factors,
+    from: usize,
+    n: usize,
+    keys: &[i64],
+    named: &[u32],
+    nums: &[i32],
+    dens: &[u32],
+    scales: &[f64],
+    ranks: &[u16],
+    based: &[bool],
+) -> Items
+    requires { ⌜ (l .len ≤ 16) × (from + l .len ≤ n) × (n ≤ 32) × (length (now keys) ≡ 512) × (length (now named) ≡ 32) × Within n (now named) × Room (now nums) (now dens) (now scales) (now ranks) (now based) ⌝ }
+    ensures { λ r. ⌜ ((ks : List Facts) (fs : List Factorᵛ) → Named ks fs n (now (named .entry)) (now (keys .entry)) → n ≡ length fs → listOf l ≡ take (l .len) (drop from fs) → Paged ks (now (nums .entry)) (now (dens .entry)) (now (scales .entry)) (now (ranks .entry)) (now (based .entry)) → r ≡ packItems (viewOf ks fs) (listOf l)) ⌝ }
 {
     let mut o = tables::no_items();
-    let mut i = start;
-    while i < end {
-        let s = taken(names[i]);
-        let mut c = Count { place: 0, class: 0 };
-        let mut j: usize = 0;
-        while j < n {
-            c = counted(c, names[j], s);
-            j += 1;
-        }
-        let at = i - start;
-        o.at[at] = item(s, c);
-        o.len = at + 1;
+    let m = l.len;
+    let mut i: usize = 0;
+    while i < m {
+        let f = l.at[i];
+        let c = count_of(keys, named, ranks, from + i, n);
+        let r = named[from + i];
+        o.at[i] = item(nums, dens, scales, ranks, based, r as usize, f, c);
+        o.len = i + 1;
         i += 1;
     }
     o
 }
 
-// An admitted table has at most 128 rows, and each has a key: these two tests only spare callers a proof of it.
-pub fn resolve(t: Table, a: Factors, b: Factors) -> Resolved
-    ensures { λ r. ⌜ ((ss : List Slotᵛ) (ks : List Facts) → t ≡ tableOf ss (admitted ks) → Keyed ks → r ≡ resolvedOf ks (both (length ks) a b)) ⌝ }
+// A key put at place `at` and behind it.
+fn put_key(keys: &mut [i64], at: usize, k: [i64; 16])
+    requires { ⌜ at + 16 ≤ length (now keys) ⌝ }
+    ensures { λ _. ⌜ now (keys .exit) ≡ sets (now (keys .entry)) at k ⌝ }
 {
-    if 128 < t.len {
+    let mut i: usize = 0;
+    while i < 16 {
+        keys[at + i] = k[i];
+        i += 1;
+    }
+}
+
+// Two lists of a table of `len` rows. An admitted table has at most 128, and each has a key: these two tests only spare callers a proof of it.
+pub fn resolve(
+    len: usize,
+    nums: &[i32],
+    dens: &[u32],
+    scales: &[f64],
+    ranks: &[u16],
+    based: &[bool],
+    a: Factors,
+    b: Factors,
+) -> Resolved
+    requires { ⌜ Room (now nums) (now dens) (now scales) (now ranks) (now based) ⌝ }
+    ensures { λ r. ⌜ ((ks : List Facts) → len ≡ length ks → Paged ks (now (nums .entry)) (now (dens .entry)) (now (scales .entry)) (now (ranks .entry)) (now (based .entry)) → Keyed ks → r ≡ resolvedOf ks (both (length ks) a b)) ⌝ }
+{
+    if 128 < len {
         return refused(TABLE);
     }
-    let p = units::lists::pair_fault(t.len, a, b);
+    let p = units::lists::pair_fault(len, a, b);
     if p != 0 {
         return refused(p);
     }
     let n = a.len;
     let m = n + b.len;
-    let none = no_name();
-    let mut names = [none; 32];
+    let mut keys = [0i64; 512];
+    let mut named = [0u32; 32];
     let mut i: usize = 0;
     while i < m {
         let f = if i < n { a.at[i] } else { b.at[i - n] };
-        let row = f.row as usize;
-        let k = rows::taken(t.known[row]);
-        let e = k.exps;
-        let q = keys::key_of(e);
+        let e = pages::exps_at(nums, dens, (f.row as usize) * 16);
+        let q = tables::keys::key_of(e);
         if q.refusal != 0 {
             return refused(q.refusal);
         }
-        let nums = q.nums;
-        names[i] = named(k, nums, f);
+        let k = q.nums;
+        named[i] = f.row;
+        put_key(&mut keys, i * 16, k);
         i += 1;
     }
-    let x = items(names, 0, n, m);
-    let y = items(names, n, m, m);
+    let x = items(a, 0, m, &keys, &named, nums, dens, scales, ranks, based);
+    let y = items(b, n, m, &keys, &named, nums, dens, scales, ranks, based);
     Resolved {
         a: x,
         b: y,

@@ -91,7 +91,7 @@ fn by_groups(refusal: u32, x: f64, c: Items, n: usize) -> Answer
         }
     }
     let u = p.unit;
-    let k = form::canonical(u);
+    let k = form::merged(u);
     if k.refusal != 0 {
         return answers::refused(k.refusal);
     }

@@ -1,20 +1,23 @@
 // Sum and difference of quantities (01, "Conversion, sums, comparison"): zeros before units are looked at; else both in the unit of the smaller scale.
-// Public: `add`, `subtract`. Neither asks anything of its caller.
+// Public: `add`, `subtract`, and their halves `.._over` for a table and lists that are opened already. None asks anything of its caller.
 ghost use mathlib.Core.Path.{_≡_};
 ghost use mathlib.Core.Bool.{false};
 ghost use mathlib.Core.List.{List};
 ghost use Prim.Native.Nat.{_≤_};
 ghost use lib.ListN.{length};
 ghost use Rattle.units.specs.declared.Factor.{Factor as Factorᵛ};
+ghost use Rattle.units.specs.declared.Rows.{Rows as Rowsᵛ};
 ghost use Rattle.units.specs.Lists.{some, factorFault};
 ghost use Rattle.tables.specs.Scale.{sizeBy};
 ghost use Rattle.tables.specs.Items.{View, viewBases, packItems};
 ghost use Rattle.canonical.specs.Order.{byPlace};
+ghost use Rattle.lists.specs.Opening.{baseRows, opening, openedOf};
 ghost use Rattle.values.specs.Quantities.{answeredOf};
 ghost use Rattle.sums.specs.Sums as sums;
 ghost use Rattle.sums.specs.Calls as spec;
 use canonical::equality::Verdict;
 use conversion::convert::Converted;
+use lists::opening::Opened;
 use reduction::reduce::Smaller;
 use tables::Items;
 use units::Quantity;
@@ -67,12 +70,10 @@ fn nonzero_sum(minus: bool, x: f64, y: f64, a: Items, b: Items, n: usize) -> Ans
     }
 }
 
-pub fn add(rows: Rows, q: Quantity, p: Quantity) -> Answer
-    ensures { λ r. ⌜ r ≡ answeredOf (spec.add rows q p) ⌝ }
+// Over the opened table and lists.
+pub fn add_over(o: Opened, q: Quantity, p: Quantity) -> Answer
+    ensures { λ r. ⌜ ((rows : Rowsᵛ) → o ≡ openedOf (baseRows rows) (opening rows (q .unit) (p .unit)) → r ≡ answeredOf (spec.add rows q p)) ⌝ }
 {
-    let u = q.unit;
-    let w = p.unit;
-    let o = lists::opening::open_lists(rows, u, w);
     if o.refusal != 0 {
         return answers::refused(o.refusal);
     }
@@ -90,13 +91,19 @@ pub fn add(rows: Rows, q: Quantity, p: Quantity) -> Answer
     nonzero_sum(false, q.value, p.value, a, b, s.len)
 }
 
-// Zero minus a quantity is that negated, with a fresh mark.
-pub fn subtract(rows: Rows, q: Quantity, p: Quantity) -> Answer
-    ensures { λ r. ⌜ r ≡ answeredOf (spec.subtract rows q p) ⌝ }
+pub fn add(rows: Rows, q: Quantity, p: Quantity) -> Answer
+    ensures { λ r. ⌜ r ≡ answeredOf (spec.add rows q p) ⌝ }
 {
     let u = q.unit;
     let w = p.unit;
     let o = lists::opening::open_lists(rows, u, w);
+    add_over(o, q, p)
+}
+
+// Zero minus a quantity is that negated, with a fresh mark. Over the opened table and lists.
+pub fn subtract_over(o: Opened, q: Quantity, p: Quantity) -> Answer
+    ensures { λ r. ⌜ ((rows : Rowsᵛ) → o ≡ openedOf (baseRows rows) (opening rows (q .unit) (p .unit)) → r ≡ answeredOf (spec.subtract rows q p)) ⌝ }
+{
     if o.refusal != 0 {
         return answers::refused(o.refusal);
     }
@@ -112,4 +119,13 @@ pub fn subtract(rows: Rows, q: Quantity, p: Quantity) -> Answer
         return answers::with_mark(q.value, l, q.mark);
     }
     nonzero_sum(true, q.value, p.value, a, b, s.len)
+}
+
+pub fn subtract(rows: Rows, q: Quantity, p: Quantity) -> Answer
+    ensures { λ r. ⌜ r ≡ answeredOf (spec.subtract rows q p) ⌝ }
+{
+    let u = q.unit;
+    let w = p.unit;
+    let o = lists::opening::open_lists(rows, u, w);
+    subtract_over(o, q, p)
 }

@@ -5,13 +5,16 @@ pub mod KeySizes
 pub mod KeyOrder
 pub mod Placing
 pub mod Terms
+pub mod Paging
 pub mod Scaling
 pub mod Search
 pub mod Slotting
 pub mod Working
 pub mod Filled
-pub mod Admitting
+pub mod Storing
 pub mod Sound
+pub mod Entering
+pub mod Admitting
 pub mod Ray
 pub mod Proportional
 pub mod Entries

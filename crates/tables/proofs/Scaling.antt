@@ -17,11 +17,10 @@ use Rattle.exponents.proofs.Numbers.{Refuses}
 use Rattle.units.specs.Prefixes.{factorOf}
 use Rattle.units.specs.declared.Factor.{Factor}
 use Rattle.units.specs.declared.Row.{Row}
-use Rattle.tables.specs.declared.Known.{Known}
 use Rattle.tables.specs.declared.scales.Scaled.the-variants.{Value, Refused}
 use Rattle.tables.specs.Scale.{Numbers, binary64, raise, raisedTo, scaleFrom, scale, sizeBy}
-use Rattle.tables.specs.Rows.{Facts, scaleAt, defOf, knownOf, scaledOf}
-use Rattle.tables.proofs.Terms.{nilFactor, nilKnown, Gathered, long-def, def-at, named-at}
+use Rattle.tables.specs.Rows.{Facts, scaleAt, defOf, scaledOf}
+use Rattle.tables.proofs.Terms.{nilFactor, Defined, long-def, def-at}
 
 -- ---- a power, by the exponent's denominator and the base
 module _ {R : Type 0} (N : Numbers R) (a : R) (e : Exponent) where
@@ -65,17 +64,16 @@ scale-refuses (given w) n e = let z : _≡_ {A = ℕ} 0 1 = cc in absurd (omega 
 scale-refuses (refused r) n e = record { why = r; is = refl; numbered = cc }
 
 -- ---- the loop over a definition
-module _ (row : Row) (named : List Known) (j : ℕ) (acc p : Float) (prefix : p ≡ factorOf (getD (row .def) j nilFactor .prefix)) (h : j < row .len)
-    (ks : List Facts) (g : Gathered row named ks)
+module _ (row : Row) (ks : List Facts) (j : ℕ) (acc p t : Float) (g : Defined row) (h : j < row .len)
+    (prefix : p ≡ factorOf (getD (row .def) j nilFactor .prefix)) (is : t ≡ scaleAt ks (getD (row .def) j nilFactor .row))
     (so-far : scaleFrom binary64 (sizeBy (scaleAt ks)) acc (drop j (defOf row)) ≡ scale binary64 (sizeBy (scaleAt ks)) (defOf row)) where
   -- what the code has raised
   abbrev power : Outcome Float
-  power = raisedTo binary64 (mul ieee.binary64 p (getD named j nilKnown .scale)) (getD (row .def) j nilFactor .exponent)
+  power = raisedTo binary64 (mul ieee.binary64 p t) (getD (row .def) j nilFactor .exponent)
 
   there : power ≡ raisedTo binary64 (sizeBy (scaleAt ks) (getD (defOf row) j nilFactor)) (getD (defOf row) j nilFactor .exponent)
-  unfolding scaleAt knownOf
   there =
-      ap₂ (λ (p : Float) (k : Known). raisedTo binary64 (mul ieee.binary64 p (k .scale)) (getD (row .def) j nilFactor .exponent)) prefix (named-at g j h nilFactor nilKnown)
+      ap₂ (λ (p t : Float). raisedTo binary64 (mul ieee.binary64 p t) (getD (row .def) j nilFactor .exponent)) prefix is
       ∙ ap (λ (f : Factor). raisedTo binary64 (sizeBy (scaleAt ks) f) (f .exponent)) (sym (def-at g j h nilFactor))
 
   pub factor-on : (v : Float) → scaledOf power ≡ Value v → scaleFrom binary64 (sizeBy (scaleAt ks)) (mul ieee.binary64 acc v) (drop (j + 1) (defOf row)) ≡ scale binary64 (sizeBy (scaleAt ks)) (defOf row)
@@ -87,7 +85,7 @@ module _ (row : Row) (named : List Known) (j : ℕ) (acc p : Float) (prefix : p 
       ap Refused (sym (r .numbered))
       ∙ sym (ap scaledOf (sym so-far ∙ scale-off binary64 (sizeBy (scaleAt ks)) (defOf row) acc j nilFactor (rw (long-def g) h) (r .why) (sym there ∙ r .is)))
 
-pub factors-end : (row : Row) (named : List Known) (j : ℕ) (acc : Float) (ks : List Facts) → Gathered row named ks → row .len ≤ j
+pub factors-end : (row : Row) (ks : List Facts) (j : ℕ) (acc : Float) → Defined row → row .len ≤ j
     → scaleFrom binary64 (sizeBy (scaleAt ks)) acc (drop j (defOf row)) ≡ scale binary64 (sizeBy (scaleAt ks)) (defOf row)
     → Value acc ≡ scaledOf (scale binary64 (sizeBy (scaleAt ks)) (defOf row))
-factors-end row named j acc ks g h so-far = sym (ap scaledOf (sym so-far ∙ scale-end binary64 (sizeBy (scaleAt ks)) (defOf row) acc j (omega (arith, long-def g))))
+factors-end row ks j acc g h so-far = sym (ap scaledOf (sym so-far ∙ scale-end binary64 (sizeBy (scaleAt ks)) (defOf row) acc j (omega (arith, long-def g))))

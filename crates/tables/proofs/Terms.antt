@@ -1,11 +1,13 @@
--- The base exponents of a definition, as the code works them out from the rows that it has gathered.
+-- The base exponents of a definition, as the code works them out from the arrays of all rows' exponents.
 use mathlib.Core.Path.{_≡_, refl, sym, ap, ap₂, _∙_}
-use mathlib.Core.Bool.{true, false}
+use mathlib.Core.Bool.{true, false, not}
 use mathlib.Core.List.{List, [], _∷_, _++_, map}
-use Prim.Native.Nat.{ℕ, zero, suc, _+_, _-_, _≤_, _<_}
+use Prim.Native.Nat.{ℕ, zero, suc, _+_, _-_, _*_, _≤_, _<_}
 use native.Mathlib.Omega.{arith}
-use lib.ListN.{length, take, drop, getD, set, replicate, length-map}
+use lib.Dec.{ltb}
+use lib.ListN.{length, drop, getD, set, replicate, length-map}
 use lib.Seq.{getD-take, length-take-le}
+use borrow.Author.Tests.{ltb-true, not-false}
 use Rattle.exponents.specs.Outcome.{Outcome, given, bind}
 use Rattle.exponents.specs.Fractions.{nought, add?, mul?, sum?, same, faulty, fractionOf}
 use Rattle.exponents.specs.declared.Exponent.{Exponent}
@@ -17,7 +19,7 @@ use Rattle.exponents.proofs.Sound.{zero-term, add-sound}
 use Rattle.exponents.proofs.Summing.{sum-on, sum-off, sum-end}
 use Rattle.exponents.proofs.Traversal as each
 use Rattle.units.specs.declared.Factor.{Factor}
-use lib.IntN.{pos}
+use lib.IntN.{ℤ, pos}
 use lib.Ieee.{nan}
 use Rattle.units.specs.declared.Prefix.the-variants.{Metric}
 use Rattle.units.specs.declared.Kind.the-variants.{Base}
@@ -27,7 +29,8 @@ use Rattle.units.proofs.Laws.{none-at, stored}
 use Rattle.units.proofs.Sound.{exponent-sound}
 use Rattle.tables.specs.declared.Known.{Known}
 use Rattle.tables.specs.Lists.{baseAt, base}
-use Rattle.tables.specs.Rows.{Facts, nobody, expAt, places, bases, defOf, packExps, knownOf, found, noExps, expsOf}
+use Rattle.tables.specs.Rows.{Facts, expAt, places, bases, defOf, packExps, noExps, expsOf}
+use Rattle.tables.specs.Pages.{Filed}
 
 -- ---- one term more
 module _ (acc e d : Exponent) where
@@ -66,11 +69,17 @@ pub push-exps : (es : List Exponent) (e : Exponent) (s : ℕ) → length es ≡ 
 unfolding packExps
 push-exps es e s n h = stored es nought e s n h
 
--- ---- the rows that are gathered
+-- ---- the base rows of a table
 pub get-map : {A B : Type 0} (f : A → B) (l : List A) (i : ℕ) (a : A) (b : B) → i < length l → getD (map f l) i b ≡ f (getD l i a)
 get-map f [] i a b h = absurd (omega arith)
 get-map f (x ∷ l) zero a b h = refl
 get-map f (x ∷ l) (suc i) a b h = get-map f l i a b (omega arith)
+
+-- a place inside a list reads the same whatever stands for those outside
+pub get-any : {A : Type 0} (l : List A) (i : ℕ) (a b : A) → i < length l → getD l i a ≡ getD l i b
+get-any [] i a b h = absurd (omega arith)
+get-any (x ∷ l) zero a b h = refl
+get-any (x ∷ l) (suc i) a b h = get-any l i a b (omega arith)
 
 get-places : (p n i d : ℕ) → i < n → getD (places p n) i d ≡ p + i
 unfolding places
@@ -103,20 +112,12 @@ nilRow = record { def = []; len = 0; rank = 0; kind = Base }
 pub unmapped : {A B : Type 0} (f : A → B) (l : List A) (n : ℕ) → length (map f l) ≡ n → length l ≡ n
 unmapped f l n p = sym (length-map l f) ∙ p
 
--- a checked definition's exponents keep their rule
-pub def-sound : (row : Row) (j : ℕ) (f : Factor) → row .len ≤ 8 → length (row .def) ≡ 8 → j < row .len → some factorFault (defOf row) ≡ false → faulty (getD (row .def) j f .exponent) ≡ false
-def-sound row j f m l h e =
-    let long = length-take-le (row .len) (row .def) (omega arith) in
-    let k : j < length (defOf row) = omega arith in
-    ap (λ (g : Factor). faulty (g .exponent)) (sym (getD-take (row .len) (row .def) j f h)) ∙ exponent-sound (getD (defOf row) j f) (none-at factorFault (defOf row) j f k e)
-
--- a row and the rows that its definition names
-pub record Gathered (row : Row) (named : List Known) (ks : List Facts) : Type 0 where
+-- ---- the factors of a definition, as they stand in its array
+pub record Defined (row : Row) : Type 0 where
   pub short : row .len ≤ 8
   pub full : length (row .def) ≡ 8
-  pub are : take (row .len) named ≡ map (found ks) (defOf row)
 
-module _ {row : Row} {named : List Known} {ks : List Facts} (g : Gathered row named ks) where
+module _ {row : Row} (g : Defined row) where
   pub long-def : length (defOf row) ≡ row .len
   long-def = length-take-le (row .len) (row .def) (omega (arith, g .short, g .full))
 
@@ -124,39 +125,43 @@ module _ {row : Row} {named : List Known} {ks : List Facts} (g : Gathered row na
     pub def-at : getD (defOf row) j f ≡ getD (row .def) j f
     def-at = getD-take (row .len) (row .def) j f h
 
-    pub named-at : (d : Known) → getD named j d ≡ found ks (getD (row .def) j f)
-    named-at d =
-        sym (getD-take (row .len) named j d h)
-        ∙ ap (λ l. getD l j d) (g .are)
-        ∙ get-map (found ks) (defOf row) j f d (rw long-def h)
-        ∙ ap (found ks) def-at
+    inside : j < length (defOf row)
+    inside = rw long-def h
 
-    -- what the code reads of a gathered row
-    pub exponent-at : (d : Known) (s : ℕ) (x : Exponent) → s < 16 → getD (getD named j d .exps) s x ≡ expAt ks s (getD (row .def) j f .row)
-    unfolding expAt knownOf packExps
-    exponent-at d s x hs = ap (λ (k : Known). getD (k .exps) s x) (named-at d) ∙ padded 16 (getD ks (getD (row .def) j f .row) nobody .exps) s x hs
+    -- a checked definition's exponents keep their rule
+    pub def-sound : some factorFault (defOf row) ≡ false → faulty (getD (row .def) j f .exponent) ≡ false
+    def-sound e = ap (λ (g : Factor). faulty (g .exponent)) (sym def-at) ∙ exponent-sound (getD (defOf row) j f) (none-at factorFault (defOf row) j f inside e)
+
+    -- and the rows that it names are among the first n
+    pub row-below : (n : ℕ) → some (λ f. not (ltb (f .row) n)) (defOf row) ≡ false → getD (row .def) j f .row < n
+    row-below n e = rw (← def-at) (ltb-true _ n (not-false _ (none-at (λ f. not (ltb (f .row) n)) (defOf row) j f inside e)))
+
+-- what the code reads of row r at the base row s
+pub exponent-is : (ks : List Facts) (nums : List ℤ) (dens : List ℕ) (r s : ℕ) (d : Exponent) → Filed ks nums dens → r < length ks → s < 16
+    → d .num ≡ getD nums (r * 16 + s) (pos 0) → d .den ≡ getD dens (r * 16 + s) 1 → d ≡ expAt ks s r
+exponent-is ks nums dens r s d p h k t b = ap₂ (λ (n : ℤ) (m : ℕ). record { num = n; den = m }) (t ∙ p .top r s h k) (b ∙ p .bottom r s h k)
 
 -- ---- the inner loop: one base row
 abbrev pub termAt : List Facts → ℕ → Factor → Outcome Exponent
 termAt ks s f = mul? (f .exponent) (expAt ks s (f .row))
 
-module _ (row : Row) (named : List Known) (s j : ℕ) (f : Factor) (d k : Known) (is : k ≡ getD named j d) (x acc : Exponent) (hs : s < 16) (h : j < row .len)
-    (ks : List Facts) (g : Gathered row named ks) (so-far : sum? (termAt ks s) acc (drop j (defOf row)) ≡ sum? (termAt ks s) nought (defOf row)) where
-  step : bind (mul? (getD (row .def) j f .exponent) (getD (k .exps) s x)) (λ t. add? acc t) ≡ bind (termAt ks s (getD (defOf row) j f)) (λ t. add? acc t)
+module _ (row : Row) (ks : List Facts) (s j : ℕ) (f : Factor) (d acc : Exponent) (g : Defined row) (h : j < row .len)
+    (is : d ≡ expAt ks s (getD (row .def) j f .row)) (so-far : sum? (termAt ks s) acc (drop j (defOf row)) ≡ sum? (termAt ks s) nought (defOf row)) where
+  step : bind (mul? (getD (row .def) j f .exponent) d) (λ t. add? acc t) ≡ bind (termAt ks s (getD (defOf row) j f)) (λ t. add? acc t)
   step =
-      ap₂ (λ (g : Factor) (y : Exponent). bind (mul? (g .exponent) y) (λ t. add? acc t)) (sym (def-at g j h f))
-      (ap (λ (k : Known). getD (k .exps) s x) is ∙ exponent-at g j h f d s x hs ∙ ap (λ (g : Factor). expAt ks s (g .row)) (sym (def-at g j h f)))
+      ap (λ (y : Exponent). bind (mul? (getD (row .def) j f .exponent) y) (λ t. add? acc t)) is
+      ∙ ap (λ (g : Factor). bind (termAt ks s g) (λ t. add? acc t)) (sym (def-at g j h f))
 
-  pub inner-on : (u : Exponent) → bind (mul? (getD (row .def) j f .exponent) (getD (k .exps) s x)) (λ t. add? acc t) ≡ given u → sum? (termAt ks s) u (drop (j + 1) (defOf row)) ≡ sum? (termAt ks s) nought (defOf row)
+  pub inner-on : (u : Exponent) → bind (mul? (getD (row .def) j f .exponent) d) (λ t. add? acc t) ≡ given u → sum? (termAt ks s) u (drop (j + 1) (defOf row)) ≡ sum? (termAt ks s) nought (defOf row)
   inner-on u e = sym (sum-on (termAt ks s) (defOf row) acc j f (rw (long-def g) h) u (sym step ∙ e)) ∙ so-far
 
-  pub inner-off : (n : ℕ) → Refuses (bind (mul? (getD (row .def) j f .exponent) (getD (k .exps) s x)) (λ t. add? acc t)) n → Refuses (baseAt (defOf row) (expAt ks s)) n
+  pub inner-off : (n : ℕ) → Refuses (bind (mul? (getD (row .def) j f .exponent) d) (λ t. add? acc t)) n → Refuses (baseAt (defOf row) (expAt ks s)) n
   unfolding baseAt
   inner-off n r = record { why = r .why; is = sym so-far ∙ sum-off (termAt ks s) (defOf row) acc j f (rw (long-def g) h) (r .why) (sym step ∙ r .is); numbered = r .numbered }
 
-pub inner-end : (row : Row) (named : List Known) (s j : ℕ) (acc : Exponent) (ks : List Facts) → Gathered row named ks → row .len ≤ j → sum? (termAt ks s) acc (drop j (defOf row)) ≡ sum? (termAt ks s) nought (defOf row) → baseAt (defOf row) (expAt ks s) ≡ given acc
+pub inner-end : (row : Row) (ks : List Facts) (s j : ℕ) (acc : Exponent) → Defined row → row .len ≤ j → sum? (termAt ks s) acc (drop j (defOf row)) ≡ sum? (termAt ks s) nought (defOf row) → baseAt (defOf row) (expAt ks s) ≡ given acc
 unfolding baseAt
-inner-end row named s j acc ks g h so-far = sym so-far ∙ sum-end (termAt ks s) (defOf row) acc j (omega (arith, long-def g))
+inner-end row ks s j acc g h so-far = sym so-far ∙ sum-end (termAt ks s) (defOf row) acc j (omega (arith, long-def g))
 
 -- ---- the outer loop: the base rows before s are worked out, and stand in `out`
 pub record Exping (l : List Factor) (bs : List (ℕ → Exponent)) (out : List Exponent) (s : ℕ) : Type 0 where

@@ -4,3 +4,4 @@ pub mod Key
 pub mod Scale
 pub mod Rows
 pub mod Items
+pub mod Pages

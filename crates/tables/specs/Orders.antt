@@ -3,6 +3,7 @@ use mathlib.Core.Bool.{Bool, true, false}
 use mathlib.Core.List.{List, [], _∷_}
 use Prim.Native.Nat.{ℕ, zero, suc, compare, Ordering, Ordering·lt, Ordering·eq, Ordering·gt}
 use lib.IntN.{ℤ, pos, negsuc}
+use lib.ListN.{take, drop}
 use Rattle.tables.specs.declared.order.Sense.{Sense}
 use Rattle.tables.specs.declared.order.Sense.the-variants.{Less, Equal, Greater}
 
@@ -34,6 +35,10 @@ abbrev pub senseOf : Ordering → Sense
 senseOf Ordering·lt = Less
 senseOf Ordering·eq = Equal
 senseOf Ordering·gt = Greater
+
+-- the key that stands at place a of an array of keys, sixteen numbers each
+abbrev pub keyAt : ℕ → List ℤ → List ℤ
+keyAt a ks = take 16 (drop a ks)
 
 -- is there one other than zero?
 unfoldable pub more : List ℤ → Bool

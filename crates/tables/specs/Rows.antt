@@ -29,7 +29,6 @@ use Rattle.tables.specs.declared.rows.Worked.{Worked}
 use Rattle.tables.specs.declared.rows.Exps.{Exps}
 use Rattle.tables.specs.declared.scales.Scaled.{Scaled}
 use Rattle.tables.specs.declared.scales.Scaled.the-variants.{Value, Refused}
-use Rattle.tables.specs.declared.Table.{Table}
 
 -- the first where the test holds, else the second
 abbrev pub pick : {A : Type 0} → Bool → A → A → A
@@ -179,7 +178,7 @@ rowsOf r = take (r .len) (r .at)
 unfoldable pub admit : Rows → Admission
 admit r = pick (ltb 128 (r .len)) (stopped TABLE []) (admitFrom (slots (rowsOf r)) [] (rowsOf r))
 
--- ---- how code holds them: arrays of 16 and of 128, clean past their ends
+-- ---- how code holds them: arrays of 16, clean past their ends
 
 abbrev pub noSlot : Slot
 noSlot = record { row = 0; rank = 0 }
@@ -196,13 +195,6 @@ knownOf k = record { exps = packExps (k .exps); scale = k .scale; rank = k .rank
 
 abbrev pub blankKnown : Known
 blankKnown = record { exps = replicate 16 nought; scale = one; rank = 0; base = false }
-
-unfoldable pub packKnown : List Facts → List Known
-packKnown ks = map knownOf ks ++ replicate (128 - length ks) blankKnown
-
--- the rows that a definition names, as code has gathered them
-abbrev pub found : List Facts → Factor → Known
-found ks f = knownOf (getD ks (f .row) nobody)
 
 abbrev pub noExps : ℕ → Exps
 noExps n = record { at = packExps []; refusal = n }
@@ -221,11 +213,3 @@ unworked n = record { known = blankKnown; refusal = n }
 abbrev pub workedOf : Outcome Facts → Worked
 workedOf (given k) = record { known = knownOf k; refusal = 0 }
 workedOf (refused r) = unworked (number r)
-
--- a refused table has no rows, and tells how many stood before the fault
-abbrev pub noTable : ℕ → ℕ → Table
-noTable n m = record { known = packKnown []; slots = packSlots []; len = m; refusal = n }
-
-abbrev pub tableOf : List Slot → Admission → Table
-tableOf ss (admitted ks) = record { known = packKnown ks; slots = packSlots ss; len = length ks; refusal = 0 }
-tableOf ss (stopped r ks) = noTable (number r) (length ks)

@@ -1,15 +1,19 @@
 // Admission of a table's rows, in row order (01, "Records and sizes", "The refusals"): the first fault decides.
 ghost use mathlib.Core.Path.{_≡_};
-ghost use mathlib.Core.Bool.{_||_};
-ghost use Prim.Native.Nat.{_≤_};
+ghost use mathlib.Core.Bool.{_||_, not};
+ghost use mathlib.Core.List.{List, []};
+ghost use Prim.Native.Nat.{_≤_, _<_};
 ghost use lib.Dec.{ltb, eqb};
-ghost use lib.ListN.{take};
+ghost use lib.ListN.{length, take};
 ghost use Rattle.units.specs.Lists.{some};
 ghost use Rattle.tables.specs.Rows as spec;
-ghost use Rattle.tables.specs.Rows.{rowsOf, packSlots, tableOf, noTable};
+ghost use Rattle.tables.specs.Rows.{Facts, rowsOf, defOf, packSlots, count};
+ghost use Rattle.tables.specs.Pages.{Room, Paged, Pages, RowIn, admittedOf};
+ghost use Rattle.tables.specs.declared.Slot.{Slot as Slotᵛ};
+use super::Admitted;
 use super::Slot;
 use super::Slots;
-use super::Table;
+use super::pages;
 use super::ranked;
 use super::rows;
 use exponents::refusals::SHAPE;
@@ -19,13 +23,11 @@ use units::Row;
 use units::Rows;
 
 // A refused table, and how many rows stood before the fault.
-fn refused(refusal: u32, len: usize) -> Table
-    ensures { λ r. ⌜ r ≡ noTable refusal len ⌝ }
+pub fn refused(refusal: u32, len: usize) -> Admitted
+    ensures { λ r. ⌜ r ≡ record { slots = packSlots []; len = len; refusal = refusal } ⌝ }
 {
-    let none = rows::blank();
     let slots = ranked::no_slots();
-    Table {
-        known: [none; 128],
+    Admitted {
         slots: slots,
         len: len,
         refusal: refusal,
@@ -86,7 +88,7 @@ fn row_fault(row: Row, bases: usize, met: bool) -> bool
 }
 
 // How many base rows there are with one row more.
-fn counted(k: Kind, bases: usize) -> usize
+pub fn counted(k: Kind, bases: usize) -> usize
     requires { ⌜ bases ≤ 16 ⌝ }
     ensures { λ r. ⌜ r ≡ spec.counted k bases ⌝ }
 {
@@ -96,6 +98,61 @@ fn counted(k: Kind, bases: usize) -> usize
     }
 }
 
+// Whether a definition names its own row, i, or a higher one.
+fn names_ahead(row: Row, i: usize) -> bool
+    requires { ⌜ row .len ≤ 8 ⌝ }
+    ensures { λ r. ⌜ r ≡ some (λ f. not (ltb (f .row) i)) (defOf row) ⌝ }
+{
+    let m = row.len;
+    let mut j: usize = 0;
+    while j < m {
+        let f = row.def[j];
+        if i <= (f.row as usize) {
+            return true;
+        }
+        j += 1;
+    }
+    false
+}
+
+// Row i put behind the rows before it, of which `bases` are base: 0, or the number of its refusal.
+pub fn admit_row(
+    row: Row,
+    i: usize,
+    slots: Slots,
+    bases: usize,
+    nums: &mut [i32],
+    dens: &mut [u32],
+    scales: &mut [f64],
+    ranks: &mut [u16],
+    based: &mut [bool],
+) -> u32
+    requires { ⌜ (i < 128) × (slots .len ≤ 16) × Room (now nums) (now dens) (now scales) (now ranks) (now based) ⌝ }
+    ensures { λ r. ⌜ Room (now (nums .exit)) (now (dens .exit)) (now (scales .exit)) (now (ranks .exit)) (now (based .exit)) × ((ss : List Slotᵛ) (ks : List Facts) → slots ≡ packSlots ss → i ≡ length ks → bases ≡ count ks → Paged ks (now (nums .entry)) (now (dens .entry)) (now (scales .entry)) (now (ranks .entry)) (now (based .entry)) → RowIn ss ks row r (now (nums .exit)) (now (dens .exit)) (now (scales .exit)) (now (ranks .exit)) (now (based .exit))) ⌝ }
+{
+    let met = rank_met(ranks, i, row.rank);
+    if row_fault(row, bases, met) {
+        return TABLE;
+    }
+    if names_ahead(row, i) {
+        return TABLE;
+    }
+    if rows::def_fault(row) {
+        return SHAPE;
+    }
+    let w = rows::work_out(row, nums, dens, scales, slots, i);
+    if w.refusal != 0 {
+        return w.refusal;
+    }
+    let k = w.known;
+    let e = k.exps;
+    pages::put_exps(nums, dens, i * 16, e);
+    scales[i] = k.scale;
+    ranks[i] = k.rank;
+    based[i] = k.base;
+    0
+}
+
 // A row as it is. A call's result has its arrays' lengths, which an element of an array has not.
 fn taken(row: Row) -> Row
     ensures { λ r. ⌜ r ≡ row ⌝ }
@@ -103,56 +160,36 @@ fn taken(row: Row) -> Row
     row
 }
 
-// The table of these rows; or the first fault's refusal, and how many rows stood before it.
-pub fn admit(rows: Rows) -> Table
-    ensures { λ r. ⌜ r ≡ tableOf (spec.slots (rowsOf rows)) (spec.admit rows) ⌝ }
+// The rows of a table, put in the five arrays; or the first fault's refusal, and how many rows stood before it.
+pub fn admit(
+    rows: Rows,
+    nums: &mut [i32],
+    dens: &mut [u32],
+    scales: &mut [f64],
+    ranks: &mut [u16],
+    based: &mut [bool],
+) -> Admitted
+    requires { ⌜ Room (now nums) (now dens) (now scales) (now ranks) (now based) ⌝ }
+    ensures { λ r. ⌜ (r ≡ admittedOf (spec.slots (rowsOf rows)) (spec.admit rows)) × Room (now (nums .exit)) (now (dens .exit)) (now (scales .exit)) (now (ranks .exit)) (now (based .exit)) × Pages (spec.admit rows) (now (nums .exit)) (now (dens .exit)) (now (scales .exit)) (now (ranks .exit)) (now (based .exit)) ⌝ }
 {
     let n = rows.len;
     if 128 < n {
         return refused(TABLE, 0);
     }
     let slots = slots_of(rows);
-    let none = rows::blank();
-    let mut known = [none; 128];
-    let mut ranks = [0u16; 128];
     let mut bases: usize = 0;
     let mut i: usize = 0;
     while i < n {
         let row = taken(rows.at[i]);
-        let m = row.len;
-        let met = rank_met(&ranks, i, row.rank);
-        if row_fault(row, bases, met) {
-            return refused(TABLE, i);
-        }
-        let mut named = [none; 8];
-        let mut j: usize = 0;
-        while j < m {
-            let f = row.def[j];
-            let r = f.row as usize;
-            if i <= r {
-                return refused(TABLE, i);
-            }
-            let k = known[r];
-            named[j] = k;
-            j += 1;
-        }
-        if rows::def_fault(row) {
-            return refused(SHAPE, i);
-        }
-        let w = rows::work_out(row, named, slots, i);
-        let c = w.refusal;
+        let c = admit_row(row, i, slots, bases, nums, dens, scales, ranks, based);
         if c != 0 {
             return refused(c, i);
         }
-        let k = w.known;
-        let kind = row.kind;
-        known[i] = k;
-        ranks[i] = row.rank;
-        bases = counted(kind, bases);
+        let k = row.kind;
+        bases = counted(k, bases);
         i += 1;
     }
-    Table {
-        known: known,
+    Admitted {
         slots: slots,
         len: n,
         refusal: 0,

@@ -10,6 +10,7 @@ pub mod keys; // a row's key
 pub mod order; // comparing keys
 pub mod ranked; // the base rows in rank order
 pub mod scales; // powers of a scale
+pub mod pages; // what is known of all rows, as plain numbers
 pub mod rows; // one row worked out
 pub mod admission; // the table's rows in row order
 
@@ -33,9 +34,8 @@ pub struct Known {
     pub base: bool,
 }
 
-// An admitted table; or a refusal's number, and how many rows stood before the fault.
-pub struct Table {
-    pub known: [Known; 128],
+// The base rows and the number of rows of an admitted table; or a refusal's number, and how many rows stood before the fault.
+pub struct Admitted {
     pub slots: Slots,
     pub len: usize,
     pub refusal: u32,

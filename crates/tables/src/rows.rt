@@ -1,20 +1,23 @@
 // One row worked out over the rows that its definition names (01, "Records and sizes", "Powers and scales").
 ghost use mathlib.Core.Path.{_≡_};
-ghost use mathlib.Core.Bool.{false};
+ghost use mathlib.Core.Bool.{false, not};
 ghost use mathlib.Core.List.{List, map};
 ghost use Prim.Native.Nat.{_≤_};
-ghost use lib.ListN.{length, take};
+ghost use lib.Dec.{ltb};
+ghost use lib.ListN.{length};
 ghost use Rattle.exponents.specs.Outcome.{bind};
 ghost use Rattle.exponents.specs.Fractions.{nought, fractionOf, add?, mul?, faulty as isFaulty};
 ghost use Rattle.units.specs.Lists.{some, factorFault};
 ghost use Rattle.tables.specs.Lists.{base};
-ghost use Rattle.tables.specs.Rows.{Facts, blankKnown, defOf, bases, found, noExps, expsOf, scaleAt, scaledOf};
+ghost use Rattle.tables.specs.Rows.{Facts, blankKnown, defOf, bases, noExps, expsOf, scaleAt, scaledOf};
 ghost use Rattle.tables.specs.Rows.{unworked as unworkedBy, workedOf, workedOut, packSlots, packExps, selfExp, rowDerived};
 ghost use Rattle.tables.specs.declared.Slot.{Slot as Slotᵛ};
+ghost use Rattle.tables.specs.Pages.{Reaching, Filed, Sized};
 ghost use Rattle.tables.specs.Scale.{binary64, scale, sizeBy};
 use super::Known;
 use super::Slot;
 use super::Slots;
+use super::pages;
 use super::scales::Scaled;
 use exponents::Exponent;
 use exponents::Fraction;
@@ -57,7 +60,18 @@ pub fn taken(k: Known) -> Known
     k
 }
 
-// acc + e d, where e and acc keep their rule. A zero d costs nothing.
+// acc + e d.
+fn plus_term(acc: Exponent, e: Exponent, d: Exponent) -> Fraction
+    ensures { λ r. ⌜ r ≡ fractionOf (bind (mul? e d) (λ t. add? acc t)) ⌝ }
+{
+    let t = exponents::product(e, d);
+    match t {
+        Fraction::Exact(x) => exponents::sum(acc, x),
+        Fraction::Refused(r) => Fraction::Refused(r),
+    }
+}
+
+// The same where e and acc keep their rule: most d are zero, and cost nothing.
 pub fn with_term(acc: Exponent, e: Exponent, d: Exponent) -> Fraction
     ensures { λ r. ⌜ (isFaulty e ≡ false → isFaulty acc ≡ false → r ≡ fractionOf (bind (mul? e d) (λ t. add? acc t))) ⌝ }
 {
@@ -65,11 +79,7 @@ pub fn with_term(acc: Exponent, e: Exponent, d: Exponent) -> Fraction
     if exponents::same(d, none) {
         return Fraction::Exact(acc);
     }
-    let t = exponents::product(e, d);
-    match t {
-        Fraction::Exact(x) => exponents::sum(acc, x),
-        Fraction::Refused(r) => Fraction::Refused(r),
-    }
+    plus_term(acc, e, d)
 }
 
 pub fn no_exps(refusal: u32) -> Exps
@@ -82,10 +92,10 @@ pub fn no_exps(refusal: u32) -> Exps
     }
 }
 
-// The base exponents of a checked definition at the first n base rows, `named` being the rows that it names.
-fn exps_of(row: Row, named: [Known; 8], n: usize) -> Exps
-    requires { ⌜ (row .len ≤ 8) × (n ≤ 16) × (some factorFault (defOf row) ≡ false) ⌝ }
-    ensures { λ r. ⌜ ((ks : List Facts) → take (row .len) named ≡ map (found ks) (defOf row) → r ≡ expsOf (base (bases n ks) (defOf row))) ⌝ }
+// The base exponents of a checked definition at the first n base rows.
+fn exps_of(row: Row, nums: &[i32], dens: &[u32], n: usize) -> Exps
+    requires { ⌜ (row .len ≤ 8) × (n ≤ 16) × (some factorFault (defOf row) ≡ false) × (some (λ f. not (ltb (f .row) 128)) (defOf row) ≡ false) × (length (now nums) ≡ 2048) × (length (now dens) ≡ 2048) ⌝ }
+    ensures { λ r. ⌜ ((ks : List Facts) → Reaching ks (defOf row) → Filed ks (now (nums .entry)) (now (dens .entry)) → r ≡ expsOf (base (bases n ks) (defOf row))) ⌝ }
 {
     let m = row.len;
     let none = zero();
@@ -95,10 +105,9 @@ fn exps_of(row: Row, named: [Known; 8], n: usize) -> Exps
         let mut acc = none;
         let mut j: usize = 0;
         while j < m {
-            let k = taken(named[j]);
-            let d = k.exps[s];
             let f = row.def[j];
             let e = f.exponent;
+            let d = pages::exponent_at(nums, dens, (f.row as usize) * 16 + s);
             let x = with_term(acc, e, d);
             match x {
                 Fraction::Exact(t) => {
@@ -119,20 +128,19 @@ fn exps_of(row: Row, named: [Known; 8], n: usize) -> Exps
     }
 }
 
-// The scale of a definition, `named` being the rows that it names.
-fn scale_of(row: Row, named: [Known; 8]) -> Scaled
-    requires { ⌜ row .len ≤ 8 ⌝ }
-    ensures { λ r. ⌜ ((ks : List Facts) → take (row .len) named ≡ map (found ks) (defOf row) → r ≡ scaledOf (scale binary64 (sizeBy (scaleAt ks)) (defOf row))) ⌝ }
+// The scale of a definition.
+fn scale_of(row: Row, scales: &[f64]) -> Scaled
+    requires { ⌜ (row .len ≤ 8) × (some (λ f. not (ltb (f .row) 128)) (defOf row) ≡ false) × (length (now scales) ≡ 128) ⌝ }
+    ensures { λ r. ⌜ ((ks : List Facts) → Reaching ks (defOf row) → Sized ks (now (scales .entry)) → r ≡ scaledOf (scale binary64 (sizeBy (scaleAt ks)) (defOf row))) ⌝ }
 {
     let m = row.len;
     let mut acc = 1.0;
     let mut j: usize = 0;
     while j < m {
-        let k = named[j];
         let f = row.def[j];
         let p = f.prefix;
         let e = f.exponent;
-        let size = units::prefixes::factor_of(p) * k.scale;
+        let size = units::prefixes::factor_of(p) * scales[f.row as usize];
         let x = super::scales::raised(size, e);
         match x {
             Scaled::Value(v) => {
@@ -203,11 +211,18 @@ fn own_exps(slots: Slots, i: usize) -> [Exponent; 16]
 }
 
 // A derived row: RANGE of its base exponents, then of its key, then FRACTION.
-fn derived_row(row: Row, named: [Known; 8], n: usize, factor: f64) -> Worked
-    requires { ⌜ (row .len ≤ 8) × (n ≤ 16) × (some factorFault (defOf row) ≡ false) ⌝ }
-    ensures { λ r. ⌜ ((ks : List Facts) → take (row .len) named ≡ map (found ks) (defOf row) → r ≡ workedOf (rowDerived n ks row factor)) ⌝ }
+fn derived_row(
+    row: Row,
+    nums: &[i32],
+    dens: &[u32],
+    scales: &[f64],
+    n: usize,
+    factor: f64,
+) -> Worked
+    requires { ⌜ (row .len ≤ 8) × (n ≤ 16) × (some factorFault (defOf row) ≡ false) × (some (λ f. not (ltb (f .row) 128)) (defOf row) ≡ false) × (length (now nums) ≡ 2048) × (length (now dens) ≡ 2048) × (length (now scales) ≡ 128) ⌝ }
+    ensures { λ r. ⌜ ((ks : List Facts) → Reaching ks (defOf row) → Filed ks (now (nums .entry)) (now (dens .entry)) → Sized ks (now (scales .entry)) → r ≡ workedOf (rowDerived n ks row factor)) ⌝ }
 {
-    let e = exps_of(row, named, n);
+    let e = exps_of(row, nums, dens, n);
     if e.refusal != 0 {
         return unworked(e.refusal);
     }
@@ -216,7 +231,7 @@ fn derived_row(row: Row, named: [Known; 8], n: usize, factor: f64) -> Worked
     if q != 0 {
         return unworked(q);
     }
-    let s = scale_of(row, named);
+    let s = scale_of(row, scales);
     match s {
         Scaled::Value(v) => Worked {
             known: Known {
@@ -232,9 +247,16 @@ fn derived_row(row: Row, named: [Known; 8], n: usize, factor: f64) -> Worked
 }
 
 // A row whose table rules are kept and whose definition is checked.
-pub fn work_out(row: Row, named: [Known; 8], slots: Slots, i: usize) -> Worked
-    requires { ⌜ (row .len ≤ 8) × (slots .len ≤ 16) × (some factorFault (defOf row) ≡ false) ⌝ }
-    ensures { λ r. ⌜ ((ss : List Slotᵛ) (ks : List Facts) → slots ≡ packSlots ss → i ≡ length ks → take (row .len) named ≡ map (found ks) (defOf row) → r ≡ workedOf (workedOut ss ks row)) ⌝ }
+pub fn work_out(
+    row: Row,
+    nums: &[i32],
+    dens: &[u32],
+    scales: &[f64],
+    slots: Slots,
+    i: usize,
+) -> Worked
+    requires { ⌜ (row .len ≤ 8) × (slots .len ≤ 16) × (some factorFault (defOf row) ≡ false) × (some (λ f. not (ltb (f .row) 128)) (defOf row) ≡ false) × (length (now nums) ≡ 2048) × (length (now dens) ≡ 2048) × (length (now scales) ≡ 128) ⌝ }
+    ensures { λ r. ⌜ ((ss : List Slotᵛ) (ks : List Facts) → slots ≡ packSlots ss → i ≡ length ks → Reaching ks (defOf row) → Filed ks (now (nums .entry)) (now (dens .entry)) → Sized ks (now (scales .entry)) → r ≡ workedOf (workedOut ss ks row)) ⌝ }
 {
     let k = row.kind;
     match k {
@@ -250,6 +272,6 @@ pub fn work_out(row: Row, named: [Known; 8], slots: Slots, i: usize) -> Worked
                 refusal: 0,
             }
         }
-        Kind::Derived(f) => derived_row(row, named, slots.len, f),
+        Kind::Derived(f) => derived_row(row, nums, dens, scales, slots.len, f),
     }
 }

@@ -13,15 +13,15 @@ use Rattle.units.specs.declared.Quantity.{Quantity}
 use Rattle.units.specs.declared.Rows.{Rows}
 use Rattle.units.specs.Lists.{both, joined, inverted, quotient}
 use Rattle.units.proofs.Checked.{both-pass}
-use Rattle.tables.specs.declared.Table.{Table}
+use Rattle.tables.specs.declared.Admitted.{Admitted}
 use Rattle.tables.specs.Rows.{admit}
 use Rattle.lists.specs.Opening.{known, baseRows}
-use Rattle.lists.proofs.Checks.{Admitted}
+use Rattle.lists.proofs.Checks.{Admits}
 use Rattle.lists.proofs.Ends.{bind-refuses}
 use Rattle.values.specs.Quantities.{fresh}
 use Rattle.values.specs.Calls.{checkedDiv}
 
-module _ (t : Rows) (q p : Quantity) (x : Table) (k : Admitted (baseRows t) (admit t) x) where
+module _ (t : Rows) (q p : Quantity) (x : Admitted) (k : Admits (baseRows t) (admit t) x) where
   -- what is done of a list, where the divisor may be zero
   abbrev unlessZero : Bool → Outcome (List Factor) → Outcome Quantity
   unlessZero z o = unless z DIVZERO (map (fresh (div binary64 (q .value) (p .value))) o)
@@ -31,7 +31,7 @@ module _ (t : Rows) (q p : Quantity) (x : Table) (k : Admitted (baseRows t) (adm
 
   lists-first : checkedDiv t q p ≡ bind (both (x .len) (q .unit) (p .unit)) after
   unfolding checkedDiv
-  lists-first = bind-given _ (ap known (k .is)) ∙ ap (λ n. bind (both n (q .unit) (p .unit)) after) (sym (ap (λ (y : Table). y .len) (k .table)))
+  lists-first = bind-given _ (ap known (k .is)) ∙ ap (λ n. bind (both n (q .unit) (p .unit)) after) (sym (ap (λ (y : Admitted). y .len) (k .table)))
 
   pub lists-refuse : (m : ℕ) → m ≡ refusalOf (both (x .len) (q .unit) (p .unit)) → (m ≡ 0 → ⊥) → Refuses (checkedDiv t q p) m
   lists-refuse m e h = let r = bind-refuses _ after m (refuses _ m e h) in record { why = r .why; is = lists-first ∙ r .is; numbered = r .numbered }

@@ -1,19 +1,24 @@
-// Product and quotient of quantities (01, "Conversion, sums, comparison", "The refusals", last sentence of "Canonical form").
+// Product and quotient of quantities (01, "Conversion, sums, comparison", "The refusals", last sentence of "Canonical form"). `_over`: over a table that is checked.
 ghost use mathlib.Core.Path.{_≡_};
+ghost use Rattle.units.specs.declared.Rows.{Rows as Rowsᵛ};
+ghost use Rattle.tables.specs.Rows.{admit};
+ghost use Rattle.tables.specs.Pages.{admittedOf};
+ghost use Rattle.lists.specs.Opening.{baseRows};
 ghost use Rattle.values.specs.Quantities.{answeredOf};
 ghost use Rattle.values.specs.Calls as spec;
 use super::answers;
 use super::answers::Answer;
 use exponents::refusals::DIVZERO;
+use tables::Admitted;
 use units::Quantity;
 use units::Rows;
 
-pub fn multiply(rows: Rows, q: Quantity, p: Quantity) -> Answer
-    ensures { λ r. ⌜ r ≡ answeredOf (spec.multiply rows q p) ⌝ }
+pub fn multiply_over(t: Admitted, q: Quantity, p: Quantity) -> Answer
+    ensures { λ r. ⌜ ((rows : Rowsᵛ) → t ≡ admittedOf (baseRows rows) (admit rows) → r ≡ answeredOf (spec.multiply rows q p)) ⌝ }
 {
     let u = q.unit;
     let w = p.unit;
-    let m = lists::joins::product(rows, u, w);
+    let m = lists::joins::product_over(t, u, w);
     if m.refusal != 0 {
         return answers::refused(m.refusal);
     }
@@ -21,11 +26,17 @@ pub fn multiply(rows: Rows, q: Quantity, p: Quantity) -> Answer
     answers::with_mark(q.value * p.value, l, true)
 }
 
-// The divisor's value is looked at after both lists, and before their joined length.
-pub fn checked_div(rows: Rows, q: Quantity, p: Quantity) -> Answer
-    ensures { λ r. ⌜ r ≡ answeredOf (spec.checkedDiv rows q p) ⌝ }
+pub fn multiply(rows: Rows, q: Quantity, p: Quantity) -> Answer
+    ensures { λ r. ⌜ r ≡ answeredOf (spec.multiply rows q p) ⌝ }
 {
-    let t = tables::admission::admit(rows);
+    let t = lists::opening::admitted(rows);
+    multiply_over(t, q, p)
+}
+
+// The divisor's value is looked at after both lists, and before their joined length.
+pub fn checked_div_over(t: Admitted, q: Quantity, p: Quantity) -> Answer
+    ensures { λ r. ⌜ ((rows : Rowsᵛ) → t ≡ admittedOf (baseRows rows) (admit rows) → r ≡ answeredOf (spec.checkedDiv rows q p)) ⌝ }
+{
     if t.refusal != 0 {
         return answers::refused(t.refusal);
     }
@@ -44,4 +55,11 @@ pub fn checked_div(rows: Rows, q: Quantity, p: Quantity) -> Answer
     }
     let l = m.unit;
     answers::with_mark(q.value / p.value, l, true)
+}
+
+pub fn checked_div(rows: Rows, q: Quantity, p: Quantity) -> Answer
+    ensures { λ r. ⌜ r ≡ answeredOf (spec.checkedDiv rows q p) ⌝ }
+{
+    let t = lists::opening::admitted(rows);
+    checked_div_over(t, q, p)
 }

@@ -1,20 +1,26 @@
-// Calls on one quantity: negation, `abs`, `no_simplify`, reduction (01, "What we take", "Records and sizes", "Powers and scales").
+// Calls on one quantity: negation, `abs`, `no_simplify`, reduction (01, "What we take", "Records and sizes", "Powers and scales"). `_over`: over a table that is checked, or a list that is opened.
 ghost use mathlib.Core.Path.{_≡_};
-ghost use Rattle.units.specs.Lists.{madeOf};
+ghost use mathlib.Core.List.{[]};
+ghost use Rattle.units.specs.declared.Rows.{Rows as Rowsᵛ};
+ghost use Rattle.units.specs.Lists.{pack, madeOf};
+ghost use Rattle.tables.specs.Rows.{admit};
+ghost use Rattle.tables.specs.Pages.{admittedOf};
+ghost use Rattle.lists.specs.Opening.{baseRows, opening, openedOf};
 ghost use Rattle.values.specs.Quantities.{answeredOf};
 ghost use Rattle.values.specs.Calls as spec;
 use super::answers;
 use super::answers::Answer;
+use lists::opening::Opened;
+use tables::Admitted;
 use units::Factors;
 use units::Quantity;
 use units::Rows;
 use units::lists::Made;
 
 // A list of a table, checked, its places past the end clean.
-pub fn listed(rows: Rows, l: Factors) -> Made
-    ensures { λ r. ⌜ r ≡ madeOf (spec.listed rows l) ⌝ }
+pub fn listed_over(t: Admitted, l: Factors) -> Made
+    ensures { λ r. ⌜ ((rows : Rowsᵛ) → t ≡ admittedOf (baseRows rows) (admit rows) → r ≡ madeOf (spec.listed rows l)) ⌝ }
 {
-    let t = tables::admission::admit(rows);
     if t.refusal != 0 {
         return units::lists::refused(t.refusal);
     }
@@ -30,11 +36,18 @@ pub fn listed(rows: Rows, l: Factors) -> Made
     }
 }
 
-pub fn negate(rows: Rows, q: Quantity) -> Answer
-    ensures { λ r. ⌜ r ≡ answeredOf (spec.negate rows q) ⌝ }
+pub fn listed(rows: Rows, l: Factors) -> Made
+    ensures { λ r. ⌜ r ≡ madeOf (spec.listed rows l) ⌝ }
+{
+    let t = lists::opening::admitted(rows);
+    listed_over(t, l)
+}
+
+pub fn negate_over(t: Admitted, q: Quantity) -> Answer
+    ensures { λ r. ⌜ ((rows : Rowsᵛ) → t ≡ admittedOf (baseRows rows) (admit rows) → r ≡ answeredOf (spec.negate rows q)) ⌝ }
 {
     let u = q.unit;
-    let m = listed(rows, u);
+    let m = listed_over(t, u);
     if m.refusal != 0 {
         return answers::refused(m.refusal);
     }
@@ -42,11 +55,18 @@ pub fn negate(rows: Rows, q: Quantity) -> Answer
     answers::with_mark(-q.value, l, true)
 }
 
-pub fn abs(rows: Rows, q: Quantity) -> Answer
-    ensures { λ r. ⌜ r ≡ answeredOf (spec.magnitude rows q) ⌝ }
+pub fn negate(rows: Rows, q: Quantity) -> Answer
+    ensures { λ r. ⌜ r ≡ answeredOf (spec.negate rows q) ⌝ }
+{
+    let t = lists::opening::admitted(rows);
+    negate_over(t, q)
+}
+
+pub fn abs_over(t: Admitted, q: Quantity) -> Answer
+    ensures { λ r. ⌜ ((rows : Rowsᵛ) → t ≡ admittedOf (baseRows rows) (admit rows) → r ≡ answeredOf (spec.magnitude rows q)) ⌝ }
 {
     let u = q.unit;
-    let m = listed(rows, u);
+    let m = listed_over(t, u);
     if m.refusal != 0 {
         return answers::refused(m.refusal);
     }
@@ -54,11 +74,18 @@ pub fn abs(rows: Rows, q: Quantity) -> Answer
     answers::with_mark(floats::abs(q.value), l, true)
 }
 
-pub fn no_simplify(rows: Rows, q: Quantity) -> Answer
-    ensures { λ r. ⌜ r ≡ answeredOf (spec.noSimplify rows q) ⌝ }
+pub fn abs(rows: Rows, q: Quantity) -> Answer
+    ensures { λ r. ⌜ r ≡ answeredOf (spec.magnitude rows q) ⌝ }
+{
+    let t = lists::opening::admitted(rows);
+    abs_over(t, q)
+}
+
+pub fn no_simplify_over(t: Admitted, q: Quantity) -> Answer
+    ensures { λ r. ⌜ ((rows : Rowsᵛ) → t ≡ admittedOf (baseRows rows) (admit rows) → r ≡ answeredOf (spec.noSimplify rows q)) ⌝ }
 {
     let u = q.unit;
-    let m = listed(rows, u);
+    let m = listed_over(t, u);
     if m.refusal != 0 {
         return answers::refused(m.refusal);
     }
@@ -66,15 +93,30 @@ pub fn no_simplify(rows: Rows, q: Quantity) -> Answer
     answers::with_mark(q.value, l, false)
 }
 
-// `to_base_unit_representation`
-pub fn reduce(rows: Rows, q: Quantity) -> Answer
-    ensures { λ r. ⌜ r ≡ answeredOf (spec.reduce rows q) ⌝ }
+pub fn no_simplify(rows: Rows, q: Quantity) -> Answer
+    ensures { λ r. ⌜ r ≡ answeredOf (spec.noSimplify rows q) ⌝ }
 {
-    let u = q.unit;
-    let x = lists::reductions::reduce_list(rows, u);
+    let t = lists::opening::admitted(rows);
+    no_simplify_over(t, q)
+}
+
+pub fn reduce_over(o: Opened, q: Quantity) -> Answer
+    ensures { λ r. ⌜ ((rows : Rowsᵛ) → o ≡ openedOf (baseRows rows) (opening rows (q .unit) (pack [])) → r ≡ answeredOf (spec.reduce rows q)) ⌝ }
+{
+    let x = lists::reductions::reduce_list_over(o);
     if x.refusal != 0 {
         return answers::refused(x.refusal);
     }
     let l = x.unit;
     answers::with_mark(q.value * x.scale, l, true)
+}
+
+// `to_base_unit_representation`
+pub fn reduce(rows: Rows, q: Quantity) -> Answer
+    ensures { λ r. ⌜ r ≡ answeredOf (spec.reduce rows q) ⌝ }
+{
+    let u = q.unit;
+    let none = units::lists::empty();
+    let o = lists::opening::open_lists(rows, u, none);
+    reduce_over(o, q)
 }

@@ -12,7 +12,7 @@ use Rattle.units.specs.declared.Factors.{Factors}
 use Rattle.units.specs.declared.Rows.{Rows}
 use Rattle.units.specs.declared.Quantity.{Quantity}
 use Rattle.units.specs.declared.Candidates.{Candidates}
-use Rattle.units.specs.Lists.{noFactor, pack}
+use Rattle.units.specs.Lists.{noFactor}
 use Rattle.lent.specs.Lent.{noRow, noCandidate}
 use Rattle.tables.specs.Rows.{pick}
 use Rattle.wire.specs.Bytes.{runAt, padTo, countOf}

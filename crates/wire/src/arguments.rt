@@ -1,7 +1,7 @@
 // Any bytes as a call's arguments: bytes of the wrong length read as a record that breaks its rule, so that the call
 // refuses them where it refuses such a record.
 ghost use mathlib.Core.Path.{_≡_};
-ghost use Rattle.wire.specs.Arguments.{badExponent, badList, badQuantity, prefixFrom, exponentFrom, listFrom, quantityFrom, manyIn, tableFrom, candidatesFrom};
+ghost use Rattle.wire.specs.Arguments.{badList, prefixFrom, exponentFrom, listFrom, quantityFrom, manyIn, candidatesFrom};
 ghost use Prim.Native.Nat.{_<_};
 use super::reading;
 use exponents::Exponent;
@@ -9,7 +9,6 @@ use units::Candidates;
 use units::Factors;
 use units::Prefix;
 use units::Quantity;
-use units::Rows;
 
 pub fn prefix(s: &[u8]) -> Prefix
     ensures { λ r. ⌜ r ≡ prefixFrom (now (s .entry)) ⌝ }
@@ -63,7 +62,7 @@ pub fn quantity(s: &[u8]) -> Quantity
 }
 
 // How many records of so many bytes; one more than the most where they are no whole number.
-fn many(len: usize, size: usize, most: usize) -> usize
+pub fn many(len: usize, size: usize, most: usize) -> usize
     requires { ⌜ (0 < size) × (most < 1000) ⌝ }
     ensures { λ r. ⌜ r ≡ manyIn size most len ⌝ }
 {
@@ -71,22 +70,6 @@ fn many(len: usize, size: usize, most: usize) -> usize
         return len / size;
     }
     most + 1
-}
-
-pub fn table(s: &[u8]) -> Rows
-    ensures { λ r. ⌜ r ≡ tableFrom (now (s .entry)) ⌝ }
-{
-    let len = many(s.len(), 176, 128);
-    let n = reading::count(128, len);
-    let none = lent::no_row();
-    let mut at = [none; 128];
-    let mut i = 0;
-    while i < n {
-        let r = reading::read_row(s, i * 176);
-        at[i] = r;
-        i += 1;
-    }
-    Rows { at, len }
 }
 
 pub fn candidates(s: &[u8]) -> Candidates

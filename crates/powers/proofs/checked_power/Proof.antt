@@ -1,120 +1,16 @@
 -- `checked_power` meets its contract.
 use borrow.Author.Needs.{needs}
-use mathlib.Core.Path.{sym, ap, _∙_}
-use mathlib.Core.List.{List, []}
-use native.Mathlib.Omega.{arith}
-use Rattle.exponents.specs.Outcome.{Outcome, bind}
-use Rattle.exponents.proofs.Holds.{bind-given}
-use Rattle.units.specs.declared.Factor.{Factor}
-use Rattle.units.specs.declared.Factors.{Factors}
-use Rattle.units.specs.declared.Quantity.{Quantity}
-use Rattle.units.specs.declared.Rows.{Rows}
-use Rattle.units.specs.Lists.{listOf}
-use Rattle.units.proofs.Laws.{len-pack, list-pack}
-use Rattle.tables.specs.Rows.{Facts}
-use Rattle.lists.proofs.Ends.{bind-refuses}
-use Rattle.values.specs.Quantities.{answeredOf}
-use Rattle.powers.specs.Powers.{raisedTo}
-use Rattle.quantities.specs.Calls.{convertIn}
-use Rattle.powers.specs.Calls.{checkedPower}
-use Rattle.quantities.proofs.Ready.{ready, stopped, goes, to-scalar, seen}
-use Rattle.values.proofs.Answered.{unanswered}
-use Rattle.quantities.proofs.Converting.{value-given, value-refused, refuses-as}
 use Rattle.powers.proofs.checked_power.Statement.{statement}
 use Rattle.powers.proofs.checked_power.Tie as tie
-
-abbrev work : Rows → Quantity → Quantity → List Facts → List Factor → List Factor → Outcome Quantity
-work t q p ks fs gs = bind (convertIn t ks gs [] (p .value)) (λ x. raisedTo (q .value) fs x)
 
 open-lists-requires : tie.Need-open-lists-requires
 open-lists-requires c κs = search needs
 
-refused-requires : tie.Need-refused-requires
-refused-requires c κs = search needs
+checked-power-over-requires : tie.Need-checked-power-over-requires
+checked-power-over-requires c κs = search needs
 
 returns : tie.Need-returns
-unfolding checkedPower
-returns c =
-    let s = c .before .before .before .before .before .before .args in
-    let x = c .before .before .before .open-lists in
-    c .refused .ensures ∙ unanswered _ _ (stopped (s .rows) (s .q .unit) (s .p .unit) (x .result) (x .ensures) (work (s .rows) (s .q) (s .p)) (c .before .if1 .taken))
-
-no-items-requires : tie.Need-no-items-requires
-no-items-requires c κs = search needs
-
-convert-requires : tie.Need-convert-requires
-convert-requires c κs = search needs
-
-enum-known-c : tie.Need-enum-known-c
-enum-known-c c = search needs
-
-enum-told : tie.Need-enum-told
-enum-told c = search needs
-
-refusal-of-requires : tie.Need-refusal-of-requires
-refusal-of-requires c κs = search needs
-
-refused-requires-2 : tie.Need-refused-requires-2
-refused-requires-2 c κs = search needs
-
-returns-2 : tie.Need-returns-2
-unfolding checkedPower
-returns-2 c =
-    let k = c .before .before .before .before in
-    let z = k .before in
-    let d = z .before .before .before .before in
-    let s = d .before .before .before .before .before .args in
-    let x = d .before .before .open-lists in
-    let r = ready (s .rows) (s .q .unit) (s .p .unit) (x .result) (x .ensures) (d .if1 .left) in
-    let o = convertIn (s .rows) (r .ks) (r .gs) [] (s .p .value) in
-    let e = to-scalar r (s .p .value) (k .convert .result) (z .no-items .result) (z .no-items .ensures) (k .convert .ensures) in
-    let n = value-refused o (k .convert .result) e _ _ (c .before .before .enum-told .given .1) (c .before .refusal-of .ensures) in
-    c .refused2 .ensures ∙ unanswered _ _ (refuses-as _ _ _ (goes r (work (s .rows) (s .q) (s .p))) (bind-refuses o _ _ n))
-
-factors-of-requires : tie.Need-factors-of-requires
-factors-of-requires c κs = search needs
-
-raised-to-requires : tie.Need-raised-to-requires
-raised-to-requires c κs =
-    let d = c .before .before .before .before .before .before .before .before .before in
-    let s = d .before .before .before .before .before .args in
-    let x = d .before .before .open-lists in
-    let r = ready (s .rows) (s .q .unit) (s .p .unit) (x .result) (x .ensures) (d .if1 .left) in
-    let e = c .factors-of .ensures (seen r) (r .fs) (r .first) (r .first-short) in
-    omega (arith, ap (λ (l : Factors). l .len) e, len-pack (r .fs), r .first-short)
-
-returns-3 : tie.Need-returns-3
-unfolding checkedPower
-returns-3 c =
-    let k = c .before .before .before .before .before in
-    let z = k .before in
-    let d = z .before .before .before .before in
-    let s = d .before .before .before .before .before .args in
-    let x = d .before .before .open-lists in
-    let r = ready (s .rows) (s .q .unit) (s .p .unit) (x .result) (x .ensures) (d .if1 .left) in
-    let o = convertIn (s .rows) (r .ks) (r .gs) [] (s .p .value) in
-    let e = to-scalar r (s .p .value) (k .convert .result) (z .no-items .result) (z .no-items .ensures) (k .convert .ensures) in
-    let y = c .before .before .before .c .given in
-    let g = value-given o (k .convert .result) e (y .0 .0) (y .1) in
-    let l = c .before .factors-of .ensures (seen r) (r .fs) (r .first) (r .first-short) in
-    c .raised-to .ensures
-    ∙ ap (λ fs. answeredOf (raisedTo (s .q .value) fs (y .0 .0))) (ap listOf l ∙ list-pack (r .fs))
-    ∙ ap answeredOf (sym (goes r (work (s .rows) (s .q) (s .p)) ∙ bind-given (λ x. raisedTo (s .q .value) (r .fs) x) g))
+returns c = let s = c .before .before .before .before .args in c .checked-power-over .ensures (s .rows) (c .before .open-lists .ensures)
 
 pub checked-power-spec : {M : Type 1} → statement M
-checked-power-spec =
-    tie.close
-    (tie.spec
-    open-lists-requires
-    refused-requires
-    returns
-    no-items-requires
-    convert-requires
-    enum-known-c
-    enum-told
-    refusal-of-requires
-    refused-requires-2
-    returns-2
-    factors-of-requires
-    raised-to-requires
-    returns-3)
+checked-power-spec = tie.close (tie.spec open-lists-requires checked-power-over-requires returns)

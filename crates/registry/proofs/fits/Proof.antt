@@ -5,6 +5,7 @@ use mathlib.Core.Path.{_≡_, sym, ap, _∙_}
 use mathlib.Core.List.{List}
 use Prim.Native.Nat.{ℕ}
 use native.Mathlib.Omega.{arith}
+use denote.Ref.{now}
 use lib.ListN.{length}
 use Rattle.exponents.specs.Outcome.{given}
 use Rattle.exponents.specs.declared.Exponent.{Exponent}
@@ -22,40 +23,44 @@ use Rattle.lists.specs.Opening.{baseRows}
 use Rattle.lists.specs.Calls.{basesIn}
 use Rattle.registry.specs.Registry.{plainView, Held}
 use Rattle.registry.proofs.GivenLists.{listed, list-long}
-use Rattle.registry.proofs.Looking.{slots-short, plain-bases, bases-same}
+use Rattle.registry.proofs.Looking.{keyed, slots-short, plain-bases, bases-same}
 use Rattle.registry.proofs.Tested.{too-long, no-base, other-units, no-scale, near, not-near}
 use Rattle.registry.proofs.fits.Statement.{statement}
 use Rattle.registry.proofs.fits.Tie as tie
 
+-- what the function starts with, from behind the slices
+abbrev begin : tie.After-shared-slice-known4 → tie.Start
+begin c = c .before .before .before .before
+
 -- the list's length
-sized : (c : tie.After-struct-known) (rows : ℕ) (ms : List Factor) → checked rows (c .before .args .m) ≡ given ms → length ms ≡ c .before .args .m .len
+sized : (c : tie.After-struct-known) (rows : ℕ) (ms : List Factor) → checked rows (begin (c .before) .args .m) ≡ given ms → length ms ≡ begin (c .before) .args .m .len
 sized c rows ms p = list-long (listed p) full
   where
-    full : length (c .before .args .m .at) ≡ 16
+    full : length (begin (c .before) .args .m .at) ≡ 16
     full = search (needs, unmapped)
 
 -- its base exponents, as the code has them
-based : (c : tie.After-base-of) (tb : Rows) (ks : List Facts) (ms : List Factor) → let a = c .before .before .before .before .before .args in Held tb ks (a .t) → checked (length ks) (a .m) ≡ given ms → c .base-of .result ≡ expsOf (base (basesIn tb ks) ms)
+based : (c : tie.After-base-of) (tb : Rows) (ks : List Facts) (ms : List Factor) → let a = begin (c .before .before .before .before) .args in Held tb ks (a .n) (now (a .nums)) (now (a .dens)) (now (a .scales)) (now (a .ranks)) (now (a .based)) → checked (length ks) (a .m) ≡ given ms → c .base-of .result ≡ expsOf (base (basesIn tb ks) ms)
 based c tb ks ms g p =
-    c .base-of .ensures (plainView ks) ms (c .before .before .plain .ensures tb ks ms g p) (listed p .few) (slots-short g) (listed p .shaped)
+    c .base-of .ensures (plainView ks) ms (c .before .plain .ensures ks ms (keyed g .few) (g .paged) p) (listed p .few) (slots-short g) (listed p .shaped)
     ∙ ap (λ bs. expsOf (base bs ms)) (plain-bases g)
 
-answered : (c : tie.Else2) (tb : Rows) (ks : List Facts) (ms : List Factor) → let b = c .before .before in let a = b .before .before .before .before .before .args in Held tb ks (a .t) → checked (length ks) (a .m) ≡ given ms → Answered (base (basesIn tb ks) ms) (b .base-of .result)
+answered : (c : tie.Else2) (tb : Rows) (ks : List Facts) (ms : List Factor) → let b = c .before .before in let a = begin (b .before .before .before .before) .args in Held tb ks (a .n) (now (a .nums)) (now (a .dens)) (now (a .scales)) (now (a .ranks)) (now (a .based)) → checked (length ks) (a .m) ≡ given ms → Answered (base (basesIn tb ks) ms) (b .base-of .result)
 answered c tb ks ms g p = let b = c .before .before in exps-given (base (basesIn tb ks) ms) (b .base-of .result) (based b tb ks ms g p) (c .if2 .left)
 
 -- they are compared
-compared : (c : tie.After-same-exponents) (tb : Rows) (ks : List Facts) (ms : List Factor) (es : List Exponent) → let a = c .before .before .before .before .before .before .before .before .before .args in (g : Held tb ks (a .t)) (p : checked (length ks) (a .m) ≡ given ms) → a .xs ≡ packExps es → length es ≡ length (baseRows tb) → c .same-exponents .result ≡ sameAll (answered (c .before .before) tb ks ms g p .exps) es
+compared : (c : tie.After-same-exponents) (tb : Rows) (ks : List Facts) (ms : List Factor) (es : List Exponent) → let a = begin (c .before .before .before .before .before .before .before .before) .args in (g : Held tb ks (a .n) (now (a .nums)) (now (a .dens)) (now (a .scales)) (now (a .ranks)) (now (a .based))) (p : checked (length ks) (a .m) ≡ given ms) → a .xs ≡ packExps es → length es ≡ length (baseRows tb) → c .same-exponents .result ≡ sameAll (answered (c .before .before) tb ks ms g p .exps) es
 compared c tb ks ms es g p e n = let y = answered (c .before .before) tb ks ms g p in c .same-exponents .ensures ∙ bases-same g ms (y .exps) es _ _ (y .is) (y .at) e n
 
 -- its scale, as the code has it
-scaled : (c : tie.After-scale-from) (tb : Rows) (ks : List Facts) (ms : List Factor) → let l = c .before .before .before .before .before .before .before .before in let a = l .before .before .before .args in Held tb ks (a .t) → checked (length ks) (a .m) ≡ given ms → c .scale-from .result ≡ scaledOf (scale binary64 (sizeBy (scaleAt ks)) ms)
+scaled : (c : tie.After-scale-from) (tb : Rows) (ks : List Facts) (ms : List Factor) → let l = c .before .before .before .before .before .before .before in let a = begin (l .before .before .before) .args in Held tb ks (a .n) (now (a .nums)) (now (a .dens)) (now (a .scales)) (now (a .ranks)) (now (a .based)) → checked (length ks) (a .m) ≡ given ms → c .scale-from .result ≡ scaledOf (scale binary64 (sizeBy (scaleAt ks)) ms)
 scaled c tb ks ms g p =
-    let l = c .before .before .before .before .before .before .before .before in
-    c .scale-from .ensures (plainView ks) ms (l .plain .ensures tb ks ms g p) (listed p .few)
+    let l = c .before .before .before .before .before .before .before in
+    c .scale-from .ensures (plainView ks) ms (l .plain .ensures ks ms (keyed g .few) (g .paged) p) (listed p .few)
 
 returns : tie.Need-returns
 returns c tb ks ms es g p e n =
-    let a = c .before .before .args in
+    let a = begin (c .before .before) .args in
     let l = sized (c .before) (length ks) ms p in
     too-long tb ks (a .most) es (a .s) ms (omega arith)
 
@@ -68,8 +73,8 @@ base-of-requires c κs = search needs
 returns-2 : tie.Need-returns-2
 returns-2 c tb ks ms es g p e n =
     let b = c .before .before in
-    let i = b .before .before .before in
-    let a = i .before .before .args in
+    let i = b .before .before in
+    let a = begin (i .before .before) .args in
     let l = sized (i .before) (length ks) ms p in
     no-base tb ks (a .most) es (a .s) ms (omega arith) _ (exps-refused (base (basesIn tb ks) ms) (b .base-of .result) (based b tb ks ms g p) (c .if2 .taken))
 
@@ -80,8 +85,8 @@ returns-3 : tie.Need-returns-3
 returns-3 c tb ks ms es g p e n =
     let q = c .before in
     let d = q .before .before in
-    let i = d .before .before .before .before .before in
-    let a = i .before .before .args in
+    let i = d .before .before .before .before in
+    let a = begin (i .before .before) .args in
     let l = sized (i .before) (length ks) ms p in
     let y = answered d tb ks ms g p in
     other-units tb ks (a .most) es (a .s) ms (omega arith) (y .exps) (y .is) (sym (compared q tb ks ms es g p e n) ∙ not-true _ (c .if3 .taken))
@@ -103,8 +108,8 @@ returns-4 c tb ks ms es g p e n =
     let r = c .before .before .before .before .before in
     let q = r .before .before in
     let d = q .before .before in
-    let i = d .before .before .before .before .before in
-    let a = i .before .before .args in
+    let i = d .before .before .before .before in
+    let a = begin (i .before .before) .args in
     let l = sized (i .before) (length ks) ms p in
     let y = answered d tb ks ms g p in
     let h = sym (compared q tb ks ms es g p e n) ∙ not-false _ (r .before .if3 .left) in
@@ -115,8 +120,8 @@ returns-5 c tb ks ms es g p e n =
     let r = c .before .before .before .before .before in
     let q = r .before .before in
     let d = q .before .before in
-    let i = d .before .before .before .before .before in
-    let a = i .before .before .args in
+    let i = d .before .before .before .before in
+    let a = begin (i .before .before) .args in
     let l = sized (i .before) (length ks) ms p in
     let y = answered d tb ks ms g p in
     let h = sym (compared q tb ks ms es g p e n) ∙ not-false _ (r .before .if3 .left) in
@@ -127,8 +132,8 @@ returns-6 c tb ks ms es g p e n =
     let r = c .before .before .before in
     let q = r .before .before in
     let d = q .before .before in
-    let i = d .before .before .before .before .before in
-    let a = i .before .before .args in
+    let i = d .before .before .before .before in
+    let a = begin (i .before .before) .args in
     let l = sized (i .before) (length ks) ms p in
     let y = answered d tb ks ms g p in
     let h = sym (compared q tb ks ms es g p e n) ∙ not-false _ (r .before .if3 .left) in

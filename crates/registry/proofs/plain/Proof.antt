@@ -8,40 +8,44 @@ use lib.ListN.{length, take, getD}
 use lib.Seq.{take-all}
 use Rattle.exponents.specs.Outcome.{given}
 use Rattle.units.specs.declared.Factor.{Factor}
-use Rattle.units.specs.declared.Rows.{Rows}
 use Rattle.units.specs.Lists.{checked}
 use Rattle.tables.specs.Rows.{Facts}
+use Rattle.tables.specs.Pages.{Paged}
 use Rattle.tables.specs.Items.{itemOf, packItems}
-use Rattle.tables.proofs.Terms.{unmapped, nilFactor, nilKnown}
-use Rattle.resolution.proofs.Resolving.{pack-none}
-use Rattle.registry.specs.Registry.{plainView, Held}
+use Rattle.tables.proofs.Terms.{unmapped, nilFactor}
+use Rattle.resolution.proofs.Resolving.{pack-none, items-more}
+use Rattle.registry.specs.Registry.{plainView}
 use Rattle.registry.proofs.GivenLists.{listed, list-long, factor-at, row-there}
-use Rattle.registry.proofs.Looking.{items-more, keyed, plain-item}
+use Rattle.registry.proofs.Looking.{plain-item}
 use Rattle.registry.proofs.plain.Statement.{statement}
 use Rattle.registry.proofs.plain.Tie as tie
 
 abbrev Inv-loop : tie.InvT-loop
-Inv-loop t l n o₀ i₀ o i =
+Inv-loop nums dens scales ranks based l n o₀ i₀ o i =
     (i ≤ n)
     × (n ≤ 16)
-    × ((tb : Rows) (ks : List Facts) (fs : List Factor) → Held tb ks t → checked (length ks) l ≡ given fs → o ≡ packItems (plainView ks) (take i fs))
+    × ((ks : List Facts) (fs : List Factor) → length ks ≤ 128 → Paged ks nums dens scales ranks based → checked (length ks) l ≡ given fs → o ≡ packItems (plainView ks) (take i fs))
 
 abbrev μ-loop : tie.MeasureT-loop
-μ-loop t l n o₀ i₀ o i = n - i
+μ-loop nums dens scales ranks based l n o₀ i₀ o i = n - i
 
-full : (c : tie.Start Inv-loop μ-loop) → length (c .args .t2 .at) ≡ 16
+-- what the function starts with, from behind the slices
+abbrev begin : tie.After-shared-slice-known4 Inv-loop μ-loop → tie.Start Inv-loop μ-loop
+begin c = c .before .before .before .before
+
+full : (c : tie.Start Inv-loop μ-loop) → length (c .args .t6 .at) ≡ 16
 full c = search (needs, unmapped)
 
 -- the list's length is the number of turns
-turns : (c : tie.After-capped Inv-loop μ-loop) (rows : ℕ) (fs : List Factor) → checked rows (c .before .args .t2) ≡ given fs → length fs ≡ c .capped .result
-turns c rows fs p = list-long (listed p) (full (c .before)) ∙ sym (c .capped .ensures .1 (listed p .short))
+turns : (c : tie.After-capped Inv-loop μ-loop) (rows : ℕ) (fs : List Factor) → checked rows (begin (c .before) .args .t6) ≡ given fs → length fs ≡ c .capped .result
+turns c rows fs p = list-long (listed p) (full (begin (c .before))) ∙ sym (c .capped .ensures .1 (listed p .short))
 
 -- the factor at place i names a row of the table
-there : (c : tie.In-loop Inv-loop μ-loop) (rows : ℕ) (fs : List Factor) → checked rows (c .before .before .before .before .args .t2) ≡ given fs → getD (c .before .before .before .before .args .t2 .at) (c .before .loop .i) nilFactor .row < rows
+there : (c : tie.In-loop Inv-loop μ-loop) (rows : ℕ) (fs : List Factor) → checked rows (begin (c .before .before .before .before) .args .t6) ≡ given fs → getD (begin (c .before .before .before .before) .args .t6 .at) (c .before .loop .i) nilFactor .row < rows
 there c rows fs p =
     let o = c .before in
     let n = turns (o .before .before) rows fs p in
-    let m = list-long (listed p) (full (o .before .before .before)) in
+    let m = list-long (listed p) (full (begin (o .before .before .before))) in
     rw (factor-at (listed p) (o .loop .i) nilFactor (omega arith)) (row-there (listed p) (o .loop .i) nilFactor (omega arith))
 
 capped-requires : tie.Need-capped-requires Inv-loop μ-loop
@@ -51,7 +55,7 @@ no-items-requires : tie.Need-no-items-requires Inv-loop μ-loop
 no-items-requires c κs = search needs
 
 loop-holds : tie.Need-loop-holds Inv-loop μ-loop
-loop-holds c = (omega arith, c .before .capped .ensures .0, λ tb ks fs g p. c .no-items .ensures ∙ pack-none (plainView ks))
+loop-holds c = (omega arith, c .before .capped .ensures .0, λ ks fs h g p. c .no-items .ensures ∙ pack-none (plainView ks))
 
 mul-f : tie.Need-mul-f Inv-loop μ-loop
 mul-f c = search needs
@@ -66,19 +70,13 @@ no-items-requires-2 : tie.Need-no-items-requires-2 Inv-loop μ-loop
 no-items-requires-2 c κs = search needs
 
 returns : tie.Need-returns Inv-loop μ-loop
-returns c tb ks fs g p = let k = c .before .before .before .before in absurd (omega (arith, there k (length ks) fs p, keyed g .few))
+returns c ks fs h g p = let k = c .before .before .before .before in absurd (omega (arith, there k (length ks) fs p, h))
 
-mul-taken : tie.Need-mul-taken Inv-loop μ-loop
-mul-taken c = search needs
+known-at-requires : tie.Need-known-at-requires Inv-loop μ-loop
+known-at-requires c κs = search needs
 
-element-copy-out-taken : tie.Need-element-copy-out-taken Inv-loop μ-loop
-element-copy-out-taken c = search needs
-
-taken-requires : tie.Need-taken-requires Inv-loop μ-loop
-taken-requires c κs = search needs
-
-mul-t15 : tie.Need-mul-t15 Inv-loop μ-loop
-mul-t15 c = search needs
+mul-t18 : tie.Need-mul-t18 Inv-loop μ-loop
+mul-t18 c = search needs
 
 element-set-from-o : tie.Need-element-set-from-o Inv-loop μ-loop
 element-set-from-o c = search needs
@@ -95,24 +93,24 @@ loop-less c = omega arith
 loop-again : tie.Need-loop-again Inv-loop μ-loop
 loop-again c =
     let k = c .before in
-    let e = k .before .before .before .before .before in
+    let e = k .before .before .before .before in
     let o = e .before in
-    let a = o .before .before .before .args in
-    let f = getD (a .t2 .at) (o .loop .i) nilFactor in (
+    let a = begin (o .before .before .before) .args in
+    let f = getD (a .t6 .at) (o .loop .i) nilFactor in (
       omega arith,
       o .loop .inv .1,
-      λ tb ks fs g p.
+      λ ks fs h g p.
           let n = turns (o .before .before) (length ks) fs p in
-          let m = list-long (listed p) (full (o .before .before .before)) in
-          items-more (plainView ks) fs (o .loop .i) nilFactor (o .loop .o) _ (omega arith) (omega arith) (o .loop .inv .2 tb ks fs g p)
-          (plain-item g f nilKnown (k .taken .result) (there e (length ks) fs p) (k .taken .ensures) ∙ ap (itemOf (plainView ks)) (factor-at (listed p) (o .loop .i) nilFactor (omega arith))),
+          let m = list-long (listed p) (full (begin (o .before .before .before))) in
+          items-more (plainView ks) fs (o .loop .i) nilFactor (o .loop .o) _ (omega arith) (omega arith) (o .loop .inv .2 ks fs h g p)
+          (plain-item ks f (k .known-at .result) (k .known-at .ensures ks g (there e (length ks) fs p)) ∙ ap (itemOf (plainView ks)) (factor-at (listed p) (o .loop .i) nilFactor (omega arith))),
     )
 
 returns-2 : tie.Need-returns-2 Inv-loop μ-loop
-returns-2 c tb ks fs g p =
+returns-2 c ks fs h g p =
     let o = c .before in
     let n = turns (o .before .before) (length ks) fs p in
-    o .loop .inv .2 tb ks fs g p ∙ ap (packItems (plainView ks)) (take-all (o .loop .i) fs (omega arith))
+    o .loop .inv .2 ks fs h g p ∙ ap (packItems (plainView ks)) (take-all (o .loop .i) fs (omega arith))
 
 pub plain-spec : {M : Type 1} → statement M
 plain-spec =
@@ -128,10 +126,8 @@ plain-spec =
     cast-row
     no-items-requires-2
     returns
-    mul-taken
-    element-copy-out-taken
-    taken-requires
-    mul-t15
+    known-at-requires
+    mul-t18
     element-set-from-o
     add-o
     add-i

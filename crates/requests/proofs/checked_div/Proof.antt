@@ -2,12 +2,9 @@
 use borrow.Author.Needs.{needs}
 use Rattle.values.specs.Calls as values
 use Rattle.requests.specs.Calls.{checkedDiv}
-use Rattle.requests.proofs.Calling.{with-three}
+use Rattle.requests.proofs.Calling.{with-two}
 use Rattle.requests.proofs.checked_div.Statement.{statement}
 use Rattle.requests.proofs.checked_div.Tie as tie
-
-table-requires : tie.Need-table-requires
-table-requires c κs = search needs
 
 quantity-requires : tie.Need-quantity-requires
 quantity-requires c κs = search needs
@@ -15,8 +12,11 @@ quantity-requires c κs = search needs
 quantity-requires-2 : tie.Need-quantity-requires-2
 quantity-requires-2 c κs = search needs
 
-checked-div-requires : tie.Need-checked-div-requires
-checked-div-requires c κs = search needs
+admitted-requires : tie.Need-admitted-requires
+admitted-requires c κs = search needs
+
+checked-div-over-requires : tie.Need-checked-div-over-requires
+checked-div-over-requires c κs = search needs
 
 quantity-requires-3 : tie.Need-quantity-requires-3
 quantity-requires-3 c κs = search needs
@@ -27,17 +27,18 @@ same-length c = search needs
 returns : tie.Need-returns
 unfolding checkedDiv
 returns c =
-    let k = c .before .before .before .before in
-    with-three (c .before .before .quantity3 .ensures) values.checkedDiv (k .checked-div .ensures) (k .before .before .before .table .ensures) (k .before .before .quantity .ensures) (k .before .quantity2 .ensures)
+    let h = c .before .before .before .before in
+    let k = h .before in
+    with-two (c .before .before .quantity3 .ensures) (values.checkedDiv _) (h .checked-div-over .ensures _ (k .admitted .ensures)) (k .before .before .quantity .ensures) (k .before .quantity2 .ensures)
 
 pub checked-div-spec : {M : Type 1} → statement M
 checked-div-spec =
     tie.close
     (tie.spec
-    table-requires
     quantity-requires
     quantity-requires-2
-    checked-div-requires
+    admitted-requires
+    checked-div-over-requires
     quantity-requires-3
     same-length
     returns)

@@ -2,12 +2,9 @@
 use borrow.Author.Needs.{needs}
 use Rattle.powers.specs.Calls as powers
 use Rattle.requests.specs.Calls.{checkedPower}
-use Rattle.requests.proofs.Calling.{with-three}
+use Rattle.requests.proofs.Calling.{with-two}
 use Rattle.requests.proofs.checked_power.Statement.{statement}
 use Rattle.requests.proofs.checked_power.Tie as tie
-
-table-requires : tie.Need-table-requires
-table-requires c κs = search needs
 
 quantity-requires : tie.Need-quantity-requires
 quantity-requires c κs = search needs
@@ -15,8 +12,11 @@ quantity-requires c κs = search needs
 quantity-requires-2 : tie.Need-quantity-requires-2
 quantity-requires-2 c κs = search needs
 
-checked-power-requires : tie.Need-checked-power-requires
-checked-power-requires c κs = search needs
+open-lists-requires : tie.Need-open-lists-requires
+open-lists-requires c κs = search needs
+
+checked-power-over-requires : tie.Need-checked-power-over-requires
+checked-power-over-requires c κs = search needs
 
 quantity-requires-3 : tie.Need-quantity-requires-3
 quantity-requires-3 c κs = search needs
@@ -27,17 +27,18 @@ same-length c = search needs
 returns : tie.Need-returns
 unfolding checkedPower
 returns c =
-    let k = c .before .before .before .before in
-    with-three (c .before .before .quantity3 .ensures) powers.checkedPower (k .checked-power .ensures) (k .before .before .before .table .ensures) (k .before .before .quantity .ensures) (k .before .quantity2 .ensures)
+    let h = c .before .before .before .before in
+    let k = h .before in
+    with-two (c .before .before .quantity3 .ensures) (powers.checkedPower _) (h .checked-power-over .ensures _ (k .open-lists .ensures)) (k .before .before .before .before .quantity .ensures) (k .before .before .before .quantity2 .ensures)
 
 pub checked-power-spec : {M : Type 1} → statement M
 checked-power-spec =
     tie.close
     (tie.spec
-    table-requires
     quantity-requires
     quantity-requires-2
-    checked-power-requires
+    open-lists-requires
+    checked-power-over-requires
     quantity-requires-3
     same-length
     returns)

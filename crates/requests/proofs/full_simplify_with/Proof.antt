@@ -2,12 +2,9 @@
 use borrow.Author.Needs.{needs}
 use Rattle.registry.specs.Calls as registry
 use Rattle.requests.specs.Calls.{fullSimplifyWith}
-use Rattle.requests.proofs.Calling.{with-three}
+use Rattle.requests.proofs.Calling.{with-two}
 use Rattle.requests.proofs.full_simplify_with.Statement.{statement}
 use Rattle.requests.proofs.full_simplify_with.Tie as tie
-
-table-requires : tie.Need-table-requires
-table-requires c κs = search needs
 
 quantity-requires : tie.Need-quantity-requires
 quantity-requires c κs = search needs
@@ -15,8 +12,41 @@ quantity-requires c κs = search needs
 candidates-requires : tie.Need-candidates-requires
 candidates-requires c κs = search needs
 
-full-simplify-with-requires : tie.Need-full-simplify-with-requires
-full-simplify-with-requires c κs = search needs
+slice-aggregate-admit-bytes : tie.Need-slice-aggregate-admit-bytes
+slice-aggregate-admit-bytes c = search needs
+
+slice-aggregate-admit-bytes-2 : tie.Need-slice-aggregate-admit-bytes-2
+slice-aggregate-admit-bytes-2 c = search needs
+
+slice-aggregate-admit-bytes-3 : tie.Need-slice-aggregate-admit-bytes-3
+slice-aggregate-admit-bytes-3 c = search needs
+
+slice-aggregate-admit-bytes-4 : tie.Need-slice-aggregate-admit-bytes-4
+slice-aggregate-admit-bytes-4 c = search needs
+
+slice-aggregate-admit-bytes-5 : tie.Need-slice-aggregate-admit-bytes-5
+slice-aggregate-admit-bytes-5 c = search needs
+
+admit-bytes-requires : tie.Need-admit-bytes-requires
+admit-bytes-requires c κs = search needs
+
+slice-aggregate-full-simplify-with-over : tie.Need-slice-aggregate-full-simplify-with-over
+slice-aggregate-full-simplify-with-over c = search needs
+
+slice-aggregate-full-simplify-with-over-2 : tie.Need-slice-aggregate-full-simplify-with-over-2
+slice-aggregate-full-simplify-with-over-2 c = search needs
+
+slice-aggregate-full-simplify-with-over-3 : tie.Need-slice-aggregate-full-simplify-with-over-3
+slice-aggregate-full-simplify-with-over-3 c = search needs
+
+slice-aggregate-full-simplify-with-over-4 : tie.Need-slice-aggregate-full-simplify-with-over-4
+slice-aggregate-full-simplify-with-over-4 c = search needs
+
+slice-aggregate-full-simplify-with-over-5 : tie.Need-slice-aggregate-full-simplify-with-over-5
+slice-aggregate-full-simplify-with-over-5 c = search needs
+
+full-simplify-with-over-requires : tie.Need-full-simplify-with-over-requires
+full-simplify-with-over-requires c κs = search needs
 
 quantity-requires-2 : tie.Need-quantity-requires-2
 quantity-requires-2 c κs = search needs
@@ -27,17 +57,29 @@ same-length c = search needs
 returns : tie.Need-returns
 unfolding fullSimplifyWith
 returns c =
-    let k = c .before .before .before .before in
-    with-three (c .before .before .quantity2 .ensures) registry.fullSimplifyWith (k .full-simplify-with .ensures) (k .before .before .before .table .ensures) (k .before .before .quantity .ensures) (k .before .candidates .ensures)
+    let h = c .before .before .before .before in
+    let k = h .before .before .before .before .before .before .before .before .before .before .before in
+    let a = k .before .before .before .before .before .before in
+    with-two (c .before .before .quantity2 .ensures) (registry.fullSimplifyWith _) (h .full-simplify-with-over .ensures _ (k .admit-bytes .ensures .0) (k .admit-bytes .ensures .2)) (a .before .quantity .ensures) (a .candidates .ensures)
 
 pub full-simplify-with-spec : {M : Type 1} → statement M
 full-simplify-with-spec =
     tie.close
     (tie.spec
-    table-requires
     quantity-requires
     candidates-requires
-    full-simplify-with-requires
+    slice-aggregate-admit-bytes
+    slice-aggregate-admit-bytes-2
+    slice-aggregate-admit-bytes-3
+    slice-aggregate-admit-bytes-4
+    slice-aggregate-admit-bytes-5
+    admit-bytes-requires
+    slice-aggregate-full-simplify-with-over
+    slice-aggregate-full-simplify-with-over-2
+    slice-aggregate-full-simplify-with-over-3
+    slice-aggregate-full-simplify-with-over-4
+    slice-aggregate-full-simplify-with-over-5
+    full-simplify-with-over-requires
     quantity-requires-2
     same-length
     returns)

@@ -2,12 +2,9 @@
 use borrow.Author.Needs.{needs}
 use Rattle.lists.specs.Calls as lists
 use Rattle.requests.specs.Calls.{listPower}
-use Rattle.requests.proofs.Calling.{with-three}
+use Rattle.requests.proofs.Calling.{with-two}
 use Rattle.requests.proofs.list_power.Statement.{statement}
 use Rattle.requests.proofs.list_power.Tie as tie
-
-table-requires : tie.Need-table-requires
-table-requires c κs = search needs
 
 list-requires : tie.Need-list-requires
 list-requires c κs = search needs
@@ -15,8 +12,11 @@ list-requires c κs = search needs
 exponent-requires : tie.Need-exponent-requires
 exponent-requires c κs = search needs
 
-list-power-requires : tie.Need-list-power-requires
-list-power-requires c κs = search needs
+admitted-requires : tie.Need-admitted-requires
+admitted-requires c κs = search needs
+
+list-power-over-requires : tie.Need-list-power-over-requires
+list-power-over-requires c κs = search needs
 
 unit-requires : tie.Need-unit-requires
 unit-requires c κs = search needs
@@ -27,17 +27,18 @@ same-length c = search needs
 returns : tie.Need-returns
 unfolding listPower
 returns c =
-    let k = c .before .before .before .before in
-    with-three (c .before .before .unit .ensures) lists.listPower (k .list-power .ensures) (k .before .before .before .table .ensures) (k .before .before .list .ensures) (k .before .exponent .ensures)
+    let h = c .before .before .before .before in
+    let k = h .before in
+    with-two (c .before .before .unit .ensures) (lists.listPower _) (h .list-power-over .ensures _ (k .admitted .ensures)) (k .before .before .list .ensures) (k .before .exponent .ensures)
 
 pub list-power-spec : {M : Type 1} → statement M
 list-power-spec =
     tie.close
     (tie.spec
-    table-requires
     list-requires
     exponent-requires
-    list-power-requires
+    admitted-requires
+    list-power-over-requires
     unit-requires
     same-length
     returns)

@@ -2,12 +2,9 @@
 use borrow.Author.Needs.{needs}
 use Rattle.values.specs.Calls as values
 use Rattle.requests.specs.Calls.{multiply}
-use Rattle.requests.proofs.Calling.{with-three}
+use Rattle.requests.proofs.Calling.{with-two}
 use Rattle.requests.proofs.multiply.Statement.{statement}
 use Rattle.requests.proofs.multiply.Tie as tie
-
-table-requires : tie.Need-table-requires
-table-requires c κs = search needs
 
 quantity-requires : tie.Need-quantity-requires
 quantity-requires c κs = search needs
@@ -15,8 +12,11 @@ quantity-requires c κs = search needs
 quantity-requires-2 : tie.Need-quantity-requires-2
 quantity-requires-2 c κs = search needs
 
-multiply-requires : tie.Need-multiply-requires
-multiply-requires c κs = search needs
+admitted-requires : tie.Need-admitted-requires
+admitted-requires c κs = search needs
+
+multiply-over-requires : tie.Need-multiply-over-requires
+multiply-over-requires c κs = search needs
 
 quantity-requires-3 : tie.Need-quantity-requires-3
 quantity-requires-3 c κs = search needs
@@ -27,17 +27,18 @@ same-length c = search needs
 returns : tie.Need-returns
 unfolding multiply
 returns c =
-    let k = c .before .before .before .before in
-    with-three (c .before .before .quantity3 .ensures) values.multiply (k .multiply .ensures) (k .before .before .before .table .ensures) (k .before .before .quantity .ensures) (k .before .quantity2 .ensures)
+    let h = c .before .before .before .before in
+    let k = h .before in
+    with-two (c .before .before .quantity3 .ensures) (values.multiply _) (h .multiply-over .ensures _ (k .admitted .ensures)) (k .before .before .quantity .ensures) (k .before .quantity2 .ensures)
 
 pub multiply-spec : {M : Type 1} → statement M
 multiply-spec =
     tie.close
     (tie.spec
-    table-requires
     quantity-requires
     quantity-requires-2
-    multiply-requires
+    admitted-requires
+    multiply-over-requires
     quantity-requires-3
     same-length
     returns)

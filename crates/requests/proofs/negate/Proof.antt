@@ -2,18 +2,18 @@
 use borrow.Author.Needs.{needs}
 use Rattle.values.specs.Calls as values
 use Rattle.requests.specs.Calls.{negate}
-use Rattle.requests.proofs.Calling.{with-two}
+use Rattle.requests.proofs.Calling.{with-one}
 use Rattle.requests.proofs.negate.Statement.{statement}
 use Rattle.requests.proofs.negate.Tie as tie
-
-table-requires : tie.Need-table-requires
-table-requires c κs = search needs
 
 quantity-requires : tie.Need-quantity-requires
 quantity-requires c κs = search needs
 
-negate-requires : tie.Need-negate-requires
-negate-requires c κs = search needs
+admitted-requires : tie.Need-admitted-requires
+admitted-requires c κs = search needs
+
+negate-over-requires : tie.Need-negate-over-requires
+negate-over-requires c κs = search needs
 
 quantity-requires-2 : tie.Need-quantity-requires-2
 quantity-requires-2 c κs = search needs
@@ -24,16 +24,17 @@ same-length c = search needs
 returns : tie.Need-returns
 unfolding negate
 returns c =
-    let k = c .before .before .before .before in
-    with-two (c .before .before .quantity2 .ensures) values.negate (k .negate .ensures) (k .before .before .table .ensures) (k .before .quantity .ensures)
+    let h = c .before .before .before .before in
+    let k = h .before in
+    with-one (c .before .before .quantity2 .ensures) (values.negate _) (h .negate-over .ensures _ (k .admitted .ensures)) (k .before .quantity .ensures)
 
 pub negate-spec : {M : Type 1} → statement M
 negate-spec =
     tie.close
     (tie.spec
-    table-requires
     quantity-requires
-    negate-requires
+    admitted-requires
+    negate-over-requires
     quantity-requires-2
     same-length
     returns)

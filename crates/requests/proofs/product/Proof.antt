@@ -2,12 +2,9 @@
 use borrow.Author.Needs.{needs}
 use Rattle.lists.specs.Calls as lists
 use Rattle.requests.specs.Calls.{product}
-use Rattle.requests.proofs.Calling.{with-three}
+use Rattle.requests.proofs.Calling.{with-two}
 use Rattle.requests.proofs.product.Statement.{statement}
 use Rattle.requests.proofs.product.Tie as tie
-
-table-requires : tie.Need-table-requires
-table-requires c κs = search needs
 
 list-requires : tie.Need-list-requires
 list-requires c κs = search needs
@@ -15,8 +12,11 @@ list-requires c κs = search needs
 list-requires-2 : tie.Need-list-requires-2
 list-requires-2 c κs = search needs
 
-product-requires : tie.Need-product-requires
-product-requires c κs = search needs
+admitted-requires : tie.Need-admitted-requires
+admitted-requires c κs = search needs
+
+product-over-requires : tie.Need-product-over-requires
+product-over-requires c κs = search needs
 
 unit-requires : tie.Need-unit-requires
 unit-requires c κs = search needs
@@ -27,17 +27,18 @@ same-length c = search needs
 returns : tie.Need-returns
 unfolding product
 returns c =
-    let k = c .before .before .before .before in
-    with-three (c .before .before .unit .ensures) lists.product (k .product .ensures) (k .before .before .before .table .ensures) (k .before .before .list .ensures) (k .before .list2 .ensures)
+    let h = c .before .before .before .before in
+    let k = h .before in
+    with-two (c .before .before .unit .ensures) (lists.product _) (h .product-over .ensures _ (k .admitted .ensures)) (k .before .before .list .ensures) (k .before .list2 .ensures)
 
 pub product-spec : {M : Type 1} → statement M
 product-spec =
     tie.close
     (tie.spec
-    table-requires
     list-requires
     list-requires-2
-    product-requires
+    admitted-requires
+    product-over-requires
     unit-requires
     same-length
     returns)

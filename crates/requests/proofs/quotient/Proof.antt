@@ -2,12 +2,9 @@
 use borrow.Author.Needs.{needs}
 use Rattle.lists.specs.Calls as lists
 use Rattle.requests.specs.Calls.{quotient}
-use Rattle.requests.proofs.Calling.{with-three}
+use Rattle.requests.proofs.Calling.{with-two}
 use Rattle.requests.proofs.quotient.Statement.{statement}
 use Rattle.requests.proofs.quotient.Tie as tie
-
-table-requires : tie.Need-table-requires
-table-requires c κs = search needs
 
 list-requires : tie.Need-list-requires
 list-requires c κs = search needs
@@ -15,8 +12,11 @@ list-requires c κs = search needs
 list-requires-2 : tie.Need-list-requires-2
 list-requires-2 c κs = search needs
 
-quotient-requires : tie.Need-quotient-requires
-quotient-requires c κs = search needs
+admitted-requires : tie.Need-admitted-requires
+admitted-requires c κs = search needs
+
+quotient-over-requires : tie.Need-quotient-over-requires
+quotient-over-requires c κs = search needs
 
 unit-requires : tie.Need-unit-requires
 unit-requires c κs = search needs
@@ -27,17 +27,18 @@ same-length c = search needs
 returns : tie.Need-returns
 unfolding quotient
 returns c =
-    let k = c .before .before .before .before in
-    with-three (c .before .before .unit .ensures) lists.quotient (k .quotient .ensures) (k .before .before .before .table .ensures) (k .before .before .list .ensures) (k .before .list2 .ensures)
+    let h = c .before .before .before .before in
+    let k = h .before in
+    with-two (c .before .before .unit .ensures) (lists.quotient _) (h .quotient-over .ensures _ (k .admitted .ensures)) (k .before .before .list .ensures) (k .before .list2 .ensures)
 
 pub quotient-spec : {M : Type 1} → statement M
 quotient-spec =
     tie.close
     (tie.spec
-    table-requires
     list-requires
     list-requires-2
-    quotient-requires
+    admitted-requires
+    quotient-over-requires
     unit-requires
     same-length
     returns)

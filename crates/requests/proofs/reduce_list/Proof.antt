@@ -2,18 +2,21 @@
 use borrow.Author.Needs.{needs}
 use Rattle.lists.specs.Calls as lists
 use Rattle.requests.specs.Calls.{reduceList}
-use Rattle.requests.proofs.Calling.{with-two}
+use Rattle.requests.proofs.Calling.{alone, with-one}
 use Rattle.requests.proofs.reduce_list.Statement.{statement}
 use Rattle.requests.proofs.reduce_list.Tie as tie
-
-table-requires : tie.Need-table-requires
-table-requires c κs = search needs
 
 list-requires : tie.Need-list-requires
 list-requires c κs = search needs
 
-reduce-list-requires : tie.Need-reduce-list-requires
-reduce-list-requires c κs = search needs
+empty-requires : tie.Need-empty-requires
+empty-requires c κs = search needs
+
+open-lists-requires : tie.Need-open-lists-requires
+open-lists-requires c κs = search needs
+
+reduce-list-over-requires : tie.Need-reduce-list-over-requires
+reduce-list-over-requires c κs = search needs
 
 reduced-requires : tie.Need-reduced-requires
 reduced-requires c κs = search needs
@@ -24,16 +27,18 @@ same-length c = search needs
 returns : tie.Need-returns
 unfolding reduceList
 returns c =
-    let k = c .before .before .before .before in
-    with-two (c .before .before .reduced .ensures) lists.reduction (k .reduce-list .ensures) (k .before .before .table .ensures) (k .before .list .ensures)
+    let h = c .before .before .before .before in
+    let k = h .before in
+    with-one (c .before .before .reduced .ensures) (lists.reduction _) (h .reduce-list-over .ensures _ _ (alone _ _ (k .open-lists .ensures) (k .before .empty .ensures))) (k .before .before .list .ensures)
 
 pub reduce-list-spec : {M : Type 1} → statement M
 reduce-list-spec =
     tie.close
     (tie.spec
-    table-requires
     list-requires
-    reduce-list-requires
+    empty-requires
+    open-lists-requires
+    reduce-list-over-requires
     reduced-requires
     same-length
     returns)

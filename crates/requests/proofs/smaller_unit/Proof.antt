@@ -2,12 +2,9 @@
 use borrow.Author.Needs.{needs}
 use Rattle.lists.specs.Calls as lists
 use Rattle.requests.specs.Calls.{smallerUnit}
-use Rattle.requests.proofs.Calling.{with-three}
+use Rattle.requests.proofs.Calling.{with-two}
 use Rattle.requests.proofs.smaller_unit.Statement.{statement}
 use Rattle.requests.proofs.smaller_unit.Tie as tie
-
-table-requires : tie.Need-table-requires
-table-requires c κs = search needs
 
 list-requires : tie.Need-list-requires
 list-requires c κs = search needs
@@ -15,8 +12,11 @@ list-requires c κs = search needs
 list-requires-2 : tie.Need-list-requires-2
 list-requires-2 c κs = search needs
 
-smaller-unit-requires : tie.Need-smaller-unit-requires
-smaller-unit-requires c κs = search needs
+open-lists-requires : tie.Need-open-lists-requires
+open-lists-requires c κs = search needs
+
+smaller-unit-over-requires : tie.Need-smaller-unit-over-requires
+smaller-unit-over-requires c κs = search needs
 
 unit-requires : tie.Need-unit-requires
 unit-requires c κs = search needs
@@ -27,17 +27,18 @@ same-length c = search needs
 returns : tie.Need-returns
 unfolding smallerUnit
 returns c =
-    let k = c .before .before .before .before in
-    with-three (c .before .before .unit .ensures) lists.smallerUnit (k .smaller-unit .ensures) (k .before .before .before .table .ensures) (k .before .before .list .ensures) (k .before .list2 .ensures)
+    let h = c .before .before .before .before in
+    let k = h .before in
+    with-two (c .before .before .unit .ensures) (lists.smallerUnit _) (h .smaller-unit-over .ensures _ _ _ (k .open-lists .ensures)) (k .before .before .list .ensures) (k .before .list2 .ensures)
 
 pub smaller-unit-spec : {M : Type 1} → statement M
 smaller-unit-spec =
     tie.close
     (tie.spec
-    table-requires
     list-requires
     list-requires-2
-    smaller-unit-requires
+    open-lists-requires
+    smaller-unit-over-requires
     unit-requires
     same-length
     returns)

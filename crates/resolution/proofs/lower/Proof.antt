@@ -1,5 +1,5 @@
 -- `lower` meets its contract.
-use Rattle.resolution.proofs.Naming.{lower-is}
+use Rattle.resolution.proofs.Counting.{lower-is}
 use Rattle.resolution.proofs.lower.Statement.{statement}
 use Rattle.resolution.proofs.lower.Tie as tie
 

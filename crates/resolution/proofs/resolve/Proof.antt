@@ -1,58 +1,82 @@
--- `resolve` meets its contract. The invariant: the factors before i of both lists are gathered with what is known of their rows.
+-- `resolve` meets its contract. The invariant: the rows and the keys of the factors before i of both lists are gathered.
 use borrow.Author.Needs.{needs}
-use mathlib.Core.Path.{_≡_, refl, sym, ap, _∙_}
+use mathlib.Core.Path.{_≡_, refl, sym, ap, _∙_, subst}
 use mathlib.Core.Logic.{⊎-elim}
-use mathlib.Core.List.{List, map}
-use Prim.Native.Nat.{_+_, _-_, _≤_, _<_}
+use mathlib.Core.List.{List}
+use Prim.Native.Nat.{_+_, _-_, _*_, _≤_, _<_}
 use native.Mathlib.Omega.{arith}
-use lib.ListN.{length, take, getD, length-set}
-use lib.Seq.{take-all}
-use Rattle.units.specs.Lists.{both}
-use Rattle.tables.specs.declared.Slot.{Slot}
-use Rattle.tables.specs.Rows.{Facts, admitted, tableOf}
-use Rattle.resolution.specs.Resolve.{Keyed, nameOf, resolvedOf}
-use Rattle.tables.proofs.Terms.{unmapped, nilFactor, nilKnown}
-use Rattle.resolution.proofs.Gathering.{gather-on, Lists, join, first-short, second-short, long-join, from-first, from-second, names-row, rows-are, key-there, name-made, not-resolved, resolved-by}
+use lib.ListN.{length, getD, set, length-set}
+use lib.Seq.{length-sets}
+use Rattle.units.specs.declared.Factor.{Factor}
+use Rattle.units.specs.Lists.{both, noFactor}
+use Rattle.tables.specs.Rows.{Facts, nobody, packExps}
+use Rattle.tables.specs.Pages.{Paged}
+use Rattle.tables.proofs.Terms.{unmapped, nilFactor}
+use Rattle.resolution.specs.Resolve.{Keyed, Named, Within, resolvedOf}
+use Rattle.resolution.proofs.Gathering.{Lists, join, first-short, second-short, long-join, from-first, from-second, first-part, second-part, names-row, key-there, key-is, within-on, named-on, named-none, not-resolved, resolved-by}
+use Rattle.tables.proofs.Paging.{known-exps}
+use Rattle.resolution.proofs.Resolving.{row-any}
 use Rattle.resolution.proofs.resolve.Statement.{statement}
 use Rattle.resolution.proofs.resolve.Tie as tie
 
 abbrev Inv-loop : tie.InvT-loop
-Inv-loop t a b p n m names₀ i₀ names i =
+Inv-loop len nums dens scales ranks based a b p n m keys₀ named₀ i₀ keys named i =
     (i ≤ m)
     × (n ≤ 16)
     × (m ≤ n + 16)
-    × (length names ≡ 32)
-    × ((ss : List Slot) (ks : List Facts) → t ≡ tableOf ss (admitted ks) → Keyed ks → take i names ≡ map (nameOf ks) (take i (join a b)))
+    × (length keys ≡ 512)
+    × (length named ≡ 32)
+    × Within i named
+    × ((ks : List Facts) → len ≡ length ks → Paged ks nums dens scales ranks based → Keyed ks → Named ks (join a b) i named keys)
 
 abbrev μ-loop : tie.MeasureT-loop
-μ-loop t a b p n m names₀ i₀ names i = m - i
+μ-loop len nums dens scales ranks based a b p n m keys₀ named₀ i₀ keys named i = m - i
 
-first-full : (c : tie.Start Inv-loop μ-loop) → length (c .args .t2 .at) ≡ 16
+first-full : (c : tie.Start Inv-loop μ-loop) → length (c .args .t7 .at) ≡ 16
 first-full c = search (needs, unmapped)
 
-second-full : (c : tie.Start Inv-loop μ-loop) → length (c .args .t3 .at) ≡ 16
+second-full : (c : tie.Start Inv-loop μ-loop) → length (c .args .t8 .at) ≡ 16
 second-full c = search (needs, unmapped)
 
-passed : (c : tie.Else2 Inv-loop μ-loop) → Lists (c .before .before .before .args .t1 .len) (c .before .before .before .args .t2) (c .before .before .before .args .t3)
-passed c = record { passed = sym (c .before .pair-fault .ensures) ∙ c .if2 .left; first-full = first-full (c .before .before .before); second-full = second-full (c .before .before .before) }
+abbrev start : tie.Else2 Inv-loop μ-loop → tie.Start Inv-loop μ-loop
+start c = c .before .before .before .before .before .before .before
+
+passed : (c : tie.Else2 Inv-loop μ-loop) → Lists (start c .args .len) (start c .args .t7) (start c .args .t8)
+passed c = record { passed = sym (c .before .pair-fault .ensures) ∙ c .if2 .left; first-full = first-full (start c); second-full = second-full (start c) }
 
 -- the factor that is read is the one at place i of both, and names a row of the table
 here : (c : tie.Joined3 Inv-loop μ-loop) →
-    let a = c .before .before .before .before .before .before .before .args in
-    c .if3 .f ≡ getD (join (a .t2) (a .t3)) (c .before .before .loop .i) nilFactor
+    let a = start (c .before .before .before) .args in
+    c .if3 .f ≡ getD (join (a .t7) (a .t8)) (c .before .before .loop .i) nilFactor
 here c =
     let i = c .before .before .loop .i in
-    let g = passed (c .before .before .before .before) in
+    let g = passed (c .before .before .before) in
     ⊎-elim (λ w. w .2 ∙ from-first g i nilFactor (w .0 .taken)) (λ w. w .2 ∙ from-second g i nilFactor (w .0 .left) (omega arith)) (c .if3 .came)
 
-there : (c : tie.Joined3 Inv-loop μ-loop) → c .if3 .f .row < c .before .before .before .before .before .before .before .args .t1 .len
-there c = rw (here c) (names-row (passed (c .before .before .before .before)) (c .before .before .loop .i) nilFactor (omega arith))
+there : (c : tie.Joined3 Inv-loop μ-loop) → c .if3 .f .row < start (c .before .before .before) .args .len
+there c = rw (here c) (names-row (passed (c .before .before .before)) (c .before .before .loop .i) nilFactor (omega arith))
+
+low : (c : tie.Joined3 Inv-loop μ-loop) → c .if3 .f .row < 128
+low c = let h = there c in omega arith
+
+-- its base exponents are those that the table has for the row
+known : (c : tie.After-exps-at Inv-loop μ-loop) (ks : List Facts) →
+    let j = c .before .before in
+    let a = start (j .before .before .before) .args in
+    a .len ≡ length ks → Paged ks (a .nums .now) (a .dens .now) (a .scales .now) (a .ranks .now) (a .based .now) → (j .if3 .f .row < length ks) × (c .exps-at .result ≡ packExps (getD ks (j .if3 .f .row) nobody .exps))
+known c ks e g =
+    let j = c .before .before in
+    let h : j .if3 .f .row < length ks = omega (arith, there j) in
+    (h, known-exps _ _ _ _ _ _ (j .if3 .f .row) (c .exps-at .result) g h (c .exps-at .ensures .0) (c .exps-at .ensures .1) (search (needs, unmapped)))
+
+long-nums : (c : tie.After-struct-known2 Inv-loop μ-loop) → length (c .before .key-of .result .nums) ≡ 16
+long-nums c = search (needs, unmapped)
 
 refused-requires : tie.Need-refused-requires Inv-loop μ-loop
 refused-requires c κs = search needs
 
 returns : tie.Need-returns Inv-loop μ-loop
-returns c ss ks e h = absurd (omega (arith, rows-are (c .before .before .args .t1) ss ks e h, h .few))
+returns c ks e g h = absurd (omega (arith, h .few))
 
 pair-fault-requires : tie.Need-pair-fault-requires Inv-loop μ-loop
 pair-fault-requires c κs = search needs
@@ -61,44 +85,47 @@ refused-requires-2 : tie.Need-refused-requires-2 Inv-loop μ-loop
 refused-requires-2 c κs = search needs
 
 returns-2 : tie.Need-returns-2 Inv-loop μ-loop
-returns-2 c ss ks e h =
-    let a = c .before .before .before .before .args in
+returns-2 c ks e g h =
+    let a = c .before .before .before .before .before .before .before .before .args in
     c .refused2 .ensures
-    ∙ not-resolved ks (both (a .t1 .len) (a .t2) (a .t3)) _ (c .before .before .pair-fault .ensures) (c .before .if2 .taken)
-    ∙ ap (λ n. resolvedOf ks (both n (a .t2) (a .t3))) (rows-are (a .t1) ss ks e h)
+    ∙ not-resolved ks (both (a .len) (a .t7) (a .t8)) _ (c .before .before .pair-fault .ensures) (c .before .if2 .taken)
+    ∙ ap (λ n. resolvedOf ks (both n (a .t7) (a .t8))) e
 
 add-m : tie.Need-add-m Inv-loop μ-loop
 add-m c = omega (arith, first-short (passed c), second-short (passed c))
 
-no-name-requires : tie.Need-no-name-requires Inv-loop μ-loop
-no-name-requires c κs = search needs
-
 loop-holds : tie.Need-loop-holds Inv-loop μ-loop
-loop-holds c = (omega arith, first-short (passed (c .before)), omega (arith, second-short (passed (c .before))), refl, λ ss ks e h. refl)
+loop-holds c =
+    let a = start c .args in (
+      omega arith,
+      first-short (passed c),
+      omega (arith, second-short (passed c)),
+      refl,
+      refl,
+      λ j h. absurd (omega arith),
+      λ ks e g h. named-none ks (join (a .t7) (a .t8)) _ _,
+    )
 
 mul-f : tie.Need-mul-f Inv-loop μ-loop
-mul-f c = omega arith
+mul-f c = search needs
 
 element-copy-out-f : tie.Need-element-copy-out-f Inv-loop μ-loop
-element-copy-out-f c = omega arith
+element-copy-out-f c = search needs
 
 mul-f-2 : tie.Need-mul-f-2 Inv-loop μ-loop
-mul-f-2 c = omega arith
+mul-f-2 c = search needs
 
 element-copy-out-f-2 : tie.Need-element-copy-out-f-2 Inv-loop μ-loop
-element-copy-out-f-2 c = omega arith
+element-copy-out-f-2 c = search needs
 
-cast-row : tie.Need-cast-row Inv-loop μ-loop
-cast-row c = search needs
+cast-exps-at : tie.Need-cast-exps-at Inv-loop μ-loop
+cast-exps-at c = let h = low (c .before) in omega arith
 
-mul-taken : tie.Need-mul-taken Inv-loop μ-loop
-mul-taken c = omega (arith, there (c .before))
+mul-exps-at : tie.Need-mul-exps-at Inv-loop μ-loop
+mul-exps-at c = let h = low (c .before) in omega arith
 
-element-copy-out-taken : tie.Need-element-copy-out-taken Inv-loop μ-loop
-element-copy-out-taken c = omega (arith, there (c .before))
-
-taken-requires : tie.Need-taken-requires Inv-loop μ-loop
-taken-requires c κs = search needs
+exps-at-requires : tie.Need-exps-at-requires Inv-loop μ-loop
+exps-at-requires c κs = let h = low (c .before) in search needs
 
 key-of-requires : tie.Need-key-of-requires Inv-loop μ-loop
 key-of-requires c κs = search needs
@@ -107,64 +134,97 @@ refused-requires-3 : tie.Need-refused-requires-3 Inv-loop μ-loop
 refused-requires-3 c κs = search needs
 
 returns-3 : tie.Need-returns-3 Inv-loop μ-loop
-returns-3 c ss ks e h =
+returns-3 c ks e g h =
+    let x = c .before .before .before .before in
     let k = c .before .before .before in
-    let t = k .before .before in
-    let j : tie.Joined3 Inv-loop μ-loop = t .before .before .before in
-    let a = j .before .before .before .before .before .before .before .args in
-    absurd (c .before .if4 .taken (key-there (a .t1) ss ks e h (j .if3 .f) nilKnown (t .taken .result) (there j) (t .taken .ensures) (k .key-of .result) (k .key-of .ensures)))
+    let w = known x ks e g in
+    absurd (c .before .if4 .taken (key-there h _ (w .0) (x .exps-at .result) (w .1) (k .key-of .result) (k .key-of .ensures)))
 
-named-requires : tie.Need-named-requires Inv-loop μ-loop
-named-requires c κs = search needs
+mul-named : tie.Need-mul-named Inv-loop μ-loop
+mul-named c = search needs
 
-mul-names : tie.Need-mul-names Inv-loop μ-loop
-mul-names c = omega arith
+array-write-named : tie.Need-array-write-named Inv-loop μ-loop
+array-write-named c = search needs
 
-array-set-from-names : tie.Need-array-set-from-names Inv-loop μ-loop
-array-set-from-names c = omega arith
+slice-aggregate-put-key : tie.Need-slice-aggregate-put-key Inv-loop μ-loop
+slice-aggregate-put-key c = search needs
+
+mul-put-key : tie.Need-mul-put-key Inv-loop μ-loop
+mul-put-key c = search needs
+
+put-key-requires : tie.Need-put-key-requires Inv-loop μ-loop
+put-key-requires c κs = omega arith
 
 add-i : tie.Need-add-i Inv-loop μ-loop
-add-i c = omega arith
+add-i c = search needs
 
 loop-less : tie.Need-loop-less Inv-loop μ-loop
 loop-less c = omega arith
 
 loop-again : tie.Need-loop-again Inv-loop μ-loop
 loop-again c =
-    let k = c .before .before .before .before in
-    let t = k .before .before in
-    let j : tie.Joined3 Inv-loop μ-loop = t .before .before .before in
+    let k = c .before .before .before .before .before .before in
+    let x = k .before in
+    let j : tie.Joined3 Inv-loop μ-loop = x .before .before in
     let o = j .before .before .loop in
-    let g = passed (j .before .before .before .before) in
-    let a = j .before .before .before .before .before .before .before .args in (
+    let l = passed (j .before .before .before) in
+    let a = start (j .before .before .before) .args in
+    let f = j .if3 .f in
+    let put = c .before .put-key .ensures in
+    let nums = k .key-of .result .nums in
+    let room : o .i < length (o .named) = omega arith in (
       omega arith,
       o .inv .1,
       o .inv .2,
-      length-set (o .names) (o .i) (c .named .result) ∙ o .inv .3,
-      λ ss ks e h.
-          gather-on (nameOf ks) (join (a .t2) (a .t3)) (o .names) (o .i) nilFactor (c .named .result) (omega (arith, long-join g)) (omega arith)
-          (name-made (a .t1) ss ks e h (j .if3 .f) nilKnown (t .taken .result) (there j) (t .taken .ensures) (k .key-of .result) (c .named .result) (k .key-of .ensures) (c .named .ensures) ∙ ap (nameOf ks) (here j))
-          (o .inv .4 ss ks e h),
+      ap length put ∙ length-sets (o .keys) (o .i * 16) nums ∙ o .inv .3,
+      length-set (o .named) (o .i) (f .row) ∙ o .inv .4,
+      within-on (o .named) (o .i) (f .row) room (low j) (o .inv .5),
+      λ ks e g h.
+          let w = known x ks e g in
+          subst (Named ks (join (a .t7) (a .t8)) (o .i + 1) (set (o .named) (o .i) (f .row))) (sym put)
+          (named-on (o .named) (o .i) (f .row) room (o .inv .6 ks e g h) nums (omega (arith, long-join l)) (omega arith)
+          (ap (λ (f : Factor). f .row) (here j) ∙ row-any (join (a .t7) (a .t8)) (o .i) nilFactor noFactor (omega (arith, long-join l)))
+          (w .0)
+          (long-nums (c .before .before .before .before .before))
+          (key-is h (f .row) (w .0) (x .exps-at .result) (w .1) (k .key-of .result) (k .key-of .ensures))),
     )
 
+slice-aggregate-items : tie.Need-slice-aggregate-items Inv-loop μ-loop
+slice-aggregate-items c = search needs
+
+slice-aggregate-items-2 : tie.Need-slice-aggregate-items-2 Inv-loop μ-loop
+slice-aggregate-items-2 c = search needs
+
 items-requires : tie.Need-items-requires Inv-loop μ-loop
-items-requires c κs = search needs
+items-requires c κs =
+    let o = c .before .before .before .loop in
+    let s : tie.Start Inv-loop μ-loop = c .before .before .before .before .before .before .before .before .before .before .before in
+    (o .inv .1, omega arith, omega arith, o .inv .3, o .inv .4, λ j h. o .inv .5 j (omega arith), s .pre)
+
+slice-aggregate-items-3 : tie.Need-slice-aggregate-items-3 Inv-loop μ-loop
+slice-aggregate-items-3 c = search needs
+
+slice-aggregate-items-4 : tie.Need-slice-aggregate-items-4 Inv-loop μ-loop
+slice-aggregate-items-4 c = search needs
 
 items-requires-2 : tie.Need-items-requires-2 Inv-loop μ-loop
-items-requires-2 c κs = search needs
+items-requires-2 c κs =
+    let o = c .before .before .before .before .before .before .loop in
+    let s : tie.Start Inv-loop μ-loop = c .before .before .before .before .before .before .before .before .before .before .before .before .before .before in
+    (omega arith, omega arith, omega arith, o .inv .3, o .inv .4, λ j h. o .inv .5 j (omega arith), s .pre)
 
 returns-4 : tie.Need-returns-4 Inv-loop μ-loop
-returns-4 c ss ks e h =
-    let x = c .before in
-    let o = x .before .before .loop in
-    let p : tie.Else2 Inv-loop μ-loop = x .before .before .before .before in
-    let g = passed p in
-    let a = p .before .before .before .args in
-    let l = join (a .t2) (a .t3) in
-    let m : o .i ≡ a .t2 .len + a .t3 .len = omega arith in
-    let all = ap (λ i. take i (o .names)) (sym m) ∙ o .inv .4 ss ks e h ∙ ap (map (nameOf ks)) (take-all (o .i) l (omega (arith, long-join g))) in
-    resolved-by g ks (x .items .result) (c .items2 .result) (x .items .ensures ks l all) (c .items2 .ensures ks l all)
-    ∙ ap (λ n. resolvedOf ks (both n (a .t2) (a .t3))) (rows-are (a .t1) ss ks e h)
+returns-4 c ks e g h =
+    let x = c .before .before .before in
+    let o = c .before .before .before .before .before .before .before .loop in
+    let p : tie.Else2 Inv-loop μ-loop = c .before .before .before .before .before .before .before .before in
+    let l = passed p in
+    let a = start p .args in
+    let m : o .i ≡ a .t7 .len + a .t8 .len = omega arith in
+    let fs = join (a .t7) (a .t8) in
+    let all = subst (λ i. Named ks fs i (o .named) (o .keys)) m (o .inv .6 ks e g h) in
+    resolved-by l ks (x .items .result) (c .items2 .result) (x .items .ensures ks fs all (sym (long-join l)) (first-part l) g) (c .items2 .ensures ks fs all (sym (long-join l)) (second-part l) g)
+    ∙ ap (λ n. resolvedOf ks (both n (a .t7) (a .t8))) e
 
 pub resolve-spec : {M : Type 1} → statement M
 resolve-spec =
@@ -178,25 +238,29 @@ resolve-spec =
     refused-requires-2
     returns-2
     add-m
-    no-name-requires
     loop-holds
     mul-f
     element-copy-out-f
     mul-f-2
     element-copy-out-f-2
-    cast-row
-    mul-taken
-    element-copy-out-taken
-    taken-requires
+    cast-exps-at
+    mul-exps-at
+    exps-at-requires
     key-of-requires
     refused-requires-3
     returns-3
-    named-requires
-    mul-names
-    array-set-from-names
+    mul-named
+    array-write-named
+    slice-aggregate-put-key
+    mul-put-key
+    put-key-requires
     add-i
     loop-less
     loop-again
+    slice-aggregate-items
+    slice-aggregate-items-2
     items-requires
+    slice-aggregate-items-3
+    slice-aggregate-items-4
     items-requires-2
     returns-4)

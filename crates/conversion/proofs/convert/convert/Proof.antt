@@ -8,10 +8,11 @@ use Rattle.tables.specs.Scale.{binary64, sizeBy}
 use Rattle.tables.specs.Items.{viewBases}
 use Rattle.canonical.specs.Order.{byPlace}
 use Rattle.canonical.specs.Canonical.{canon}
+use Rattle.canonical.proofs.Seen.{len-items}
 use Rattle.canonical.proofs.Judged.{unformed}
 use Rattle.canonical.proofs.Total.{byPlace-weak}
 use Rattle.common.specs.Common.{common}
-use Rattle.conversion.proofs.Converting.{canon-usable, over-short, over-kept, form-stops, target-form-stops, keeps-value, goes-on}
+use Rattle.conversion.proofs.Converting.{canon-usable, over-short, over-kept, form-stops, target-form-stops, keeps-value, goes-on, none-common}
 use Rattle.conversion.proofs.convert.convert.Statement.{statement}
 use Rattle.conversion.proofs.convert.convert.Tie as tie
 
@@ -54,12 +55,12 @@ returns-3 c v fs gs e f h i j k q =
 over-common-requires : tie.Need-over-common-requires
 over-common-requires c κs = search needs
 
-unlike-requires : tie.Need-unlike-requires
-unlike-requires c κs = search needs
+apart-requires : tie.Need-apart-requires
+apart-requires c κs = search needs
 
 returns-4 : tie.Need-returns-4
 returns-4 c v fs gs e f h i j k q =
-    let o = c .before in
+    let o = c .before .before .before in
     let s = o .before .before in
     let d = s .before .before .before .before in
     let y = d .before .before in
@@ -68,7 +69,28 @@ returns-4 c v fs gs e f h i j k q =
     let a = canon-usable v (x .canonical .result) fs h k (x .canonical .ensures v fs e h) (y .before .if1 .left) in
     let b = canon-usable v (y .canonical2 .result) gs i q (y .canonical2 .ensures v gs f i) (d .if2 .left) in
     let cs = map inverted (common (byPlace v) (a .answer) (b .answer)) in
-    c .unlike .ensures v fs (b .answer) cs e (b .list) (o .over-common .ensures v (a .answer) (b .answer) (a .list) (b .list) (a .short) (b .short) (a .kept) (b .kept)) h (b .short) (over-short v (a .answer) (b .answer) (a .short)) j k (b .kept) (over-kept v (a .answer) (b .answer) (a .kept) (b .kept))
+    let r = o .over-common .ensures v (a .answer) (b .answer) (a .list) (b .list) (a .short) (b .short) (a .kept) (b .kept) in
+    c .apart .ensures v fs (b .answer) e (b .list) h (b .short) j k (b .kept)
+    ∙ none-common binary64 (sizeBy (v .scale)) (viewBases v n) (byPlace v) fs (b .answer) (x .before .args .x) cs (sym (len-items v cs _ r) ∙ c .before .if4 .taken)
+    ∙ goes-on binary64 (sizeBy (v .scale)) (viewBases v n) (byPlace v) fs gs (x .before .args .x) (a .answer) (a .is) (b .answer) (b .is) (byPlace-weak v)
+    (ap₂ _||_ (sym (s .before .is-zero .ensures)) (sym (s .same .ensures v (a .answer) (b .answer) (a .list) (b .list) (a .short) (b .short))) ∙ o .before .if3 .left)
+
+unlike-requires : tie.Need-unlike-requires
+unlike-requires c κs = search needs
+
+returns-5 : tie.Need-returns-5
+returns-5 c v fs gs e f h i j k q =
+    let o = c .before .before .before in
+    let s = o .before .before in
+    let d = s .before .before .before .before in
+    let y = d .before .before in
+    let x = y .before .before .before in
+    let n = x .before .args .n in
+    let a = canon-usable v (x .canonical .result) fs h k (x .canonical .ensures v fs e h) (y .before .if1 .left) in
+    let b = canon-usable v (y .canonical2 .result) gs i q (y .canonical2 .ensures v gs f i) (d .if2 .left) in
+    let cs = map inverted (common (byPlace v) (a .answer) (b .answer)) in
+    let r = o .over-common .ensures v (a .answer) (b .answer) (a .list) (b .list) (a .short) (b .short) (a .kept) (b .kept) in
+    c .unlike .ensures v fs (b .answer) cs e (b .list) r h (b .short) (over-short v (a .answer) (b .answer) (a .short)) j k (b .kept) (over-kept v (a .answer) (b .answer) (a .kept) (b .kept))
     ∙ goes-on binary64 (sizeBy (v .scale)) (viewBases v n) (byPlace v) fs gs (x .before .args .x) (a .answer) (a .is) (b .answer) (b .is) (byPlace-weak v)
     (ap₂ _||_ (sym (s .before .is-zero .ensures)) (sym (s .same .ensures v (a .answer) (b .answer) (a .list) (b .list) (a .short) (b .short))) ∙ o .before .if3 .left)
 
@@ -84,5 +106,7 @@ convert-spec =
     same-requires
     returns-3
     over-common-requires
+    apart-requires
+    returns-4
     unlike-requires
-    returns-4)
+    returns-5)

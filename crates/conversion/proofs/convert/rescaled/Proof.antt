@@ -1,14 +1,10 @@
 -- `rescaled` meets its contract.
 use borrow.Author.Needs.{needs}
 use mathlib.Core.Path.{sym, _∙_}
-use mathlib.Core.List.{_++_}
 use Rattle.tables.specs.Scale.{binary64, sizeBy}
 use Rattle.conversion.proofs.Converting.{own-refused, target-refused, rescaled-given}
 use Rattle.conversion.proofs.convert.rescaled.Statement.{statement}
 use Rattle.conversion.proofs.convert.rescaled.Tie as tie
-
-scale-of-requires : tie.Need-scale-of-requires
-scale-of-requires c κs = search needs
 
 enum-known-a : tie.Need-enum-known-a
 enum-known-a c = search needs
@@ -26,27 +22,26 @@ enum-known-a-2 : tie.Need-enum-known-a-2
 enum-known-a-2 c = search needs
 
 returns : tie.Need-returns
-returns c v fs cs ts e f g h i k =
+returns c v own ts e g k =
     let y = c .before .before .before in
     let x = y .before .before .before .before in
-    rescaled-given binary64 (sizeBy (v .scale)) (fs ++ cs) ts (x .before .args .x) _ (sym (x .scale-of .ensures v fs cs e f h i) ∙ y .before .before .a .given .1) _ (sym (y .scale-from .ensures v ts g k) ∙ c .before .b .given .1)
+    rescaled-given binary64 (sizeBy (v .scale)) own ts (x .args .x) _ (sym e ∙ y .before .before .a .given .1) _ (sym (y .scale-from .ensures v ts g k) ∙ c .before .b .given .1)
 
 returns-2 : tie.Need-returns-2
-returns-2 c v fs cs ts e f g h i k =
+returns-2 c v own ts e g k =
     let y = c .before .before .before in
     let x = y .before .before .before .before in
-    target-refused binary64 (sizeBy (v .scale)) (fs ++ cs) ts (x .before .args .x) _ (sym (x .scale-of .ensures v fs cs e f h i) ∙ y .before .before .a .given .1) _ (sym (y .scale-from .ensures v ts g k) ∙ c .before .b2 .given .1)
+    target-refused binary64 (sizeBy (v .scale)) own ts (x .args .x) _ (sym e ∙ y .before .before .a .given .1) _ (sym (y .scale-from .ensures v ts g k) ∙ c .before .b2 .given .1)
 
 returns-3 : tie.Need-returns-3
-returns-3 c v fs cs ts e f g h i k =
+returns-3 c v own ts e g k =
     let x = c .before .before .before in
-    own-refused binary64 (sizeBy (v .scale)) (fs ++ cs) ts (x .before .args .x) _ (sym (x .scale-of .ensures v fs cs e f h i) ∙ c .before .a2 .given .1)
+    own-refused binary64 (sizeBy (v .scale)) own ts (x .args .x) _ (sym e ∙ c .before .a2 .given .1)
 
 pub rescaled-spec : {M : Type 1} → statement M
 rescaled-spec =
     tie.close
     (tie.spec
-    scale-of-requires
     enum-known-a
     scale-from-requires
     enum-known-b

@@ -68,12 +68,16 @@ returns-4 c v fs gs cs e f g h i j k p q r =
     let d = sym (seen-same v n (fs ++ cs) (t .answer) (a .exps) (b .exps) _ _ (a .is) (b .is) (a .at) (b .at)) ∙ sym (u .same-exponents .ensures) in
     units-differ binary64 (sizeBy (v .scale)) bs (fs ++ cs) (lessen (byPlace v) gs cs) (x .before .args .x) (a .exps) (a .is) (t .answer) (t .is) (b .exps) (b .is) (d ∙ not-true _ (c .if4 .taken))
 
+scale-of-requires : tie.Need-scale-of-requires
+scale-of-requires c κs = search needs
+
 rescaled-requires : tie.Need-rescaled-requires
 rescaled-requires c κs = search needs
 
 returns-5 : tie.Need-returns-5
 returns-5 c v fs gs cs e f g h i j k p q r =
-    let u = c .before .before in
+    let w = c .before in
+    let u = w .before .before in
     let z = u .before .before .before .before .before in
     let y = z .before .before .before .before in
     let x = y .before .before .before in
@@ -83,8 +87,8 @@ returns-5 c v fs gs cs e f g h i j k p q r =
     let t = lessen-usable v (y .lessened .result) gs cs i q (y .lessened .ensures v gs cs f g i j) (z .before .before .if2 .left) in
     let b = exps-given (base bs (t .answer)) (z .base-of .result) (z .base-of .ensures v (t .answer) (t .list) (t .short) k (t .kept)) (u .before .before .before .if3 .left) in
     let d = sym (seen-same v n (fs ++ cs) (t .answer) (a .exps) (b .exps) _ _ (a .is) (b .is) (a .at) (b .at)) ∙ sym (u .same-exponents .ensures) in
-    c .rescaled .ensures v fs cs (t .answer) e g (t .list) h j (t .short)
-    ∙ units-same binary64 (sizeBy (v .scale)) bs (fs ++ cs) (lessen (byPlace v) gs cs) (x .before .args .x) (a .exps) (a .is) (t .answer) (t .is) (b .exps) (b .is) (d ∙ not-false _ (c .before .if4 .left))
+    c .rescaled .ensures v (fs ++ cs) (t .answer) (w .scale-of .ensures v fs cs e g h j) (t .list) (t .short)
+    ∙ units-same binary64 (sizeBy (v .scale)) bs (fs ++ cs) (lessen (byPlace v) gs cs) (x .before .args .x) (a .exps) (a .is) (t .answer) (t .is) (b .exps) (b .is) (d ∙ not-false _ (w .before .if4 .left))
 
 pub unlike-spec : {M : Type 1} → statement M
 unlike-spec =
@@ -98,5 +102,6 @@ unlike-spec =
     returns-3
     same-exponents-requires
     returns-4
+    scale-of-requires
     rescaled-requires
     returns-5)

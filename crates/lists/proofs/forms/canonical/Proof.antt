@@ -1,26 +1,9 @@
 -- `canonical` meets its contract.
 use borrow.Author.Needs.{needs}
-use mathlib.Core.Path.{refl, sym, ap, _∙_}
-use mathlib.Core.List.{List, []}
-use native.Mathlib.Omega.{arith}
-use Rattle.exponents.specs.Outcome.{Outcome}
-use Rattle.exponents.proofs.Holds.{take-out}
-use Rattle.units.specs.declared.Factor.{Factor}
-use Rattle.units.specs.Lists.{refusedBy, pack, madeOf}
-use Rattle.tables.specs.Rows.{Facts}
-use Rattle.canonical.specs.Order.{orderIn, byPlace}
-use Rattle.canonical.specs.Canonical.{canon}
-use Rattle.canonical.proofs.Judged.{canon-short, formed, unformed}
+use mathlib.Core.Path.{ap, _∙_}
 use Rattle.lists.specs.Opening.{baseRows, opening, openedOf}
-use Rattle.lists.specs.Calls as spec
-use Rattle.lists.proofs.Checks.{open-by, unopened-by, call-refuses, call-goes, with-none, lists-known}
-use Rattle.lists.proofs.Ends.{handed, made-given}
-use Rattle.lists.proofs.Views.{view, first-form}
 use Rattle.lists.proofs.forms.canonical.Statement.{statement}
 use Rattle.lists.proofs.forms.canonical.Tie as tie
-
-abbrev work : List Facts → List Factor → Outcome (List Factor)
-work ks fs = canon (orderIn ks) fs
 
 empty-requires : tie.Need-empty-requires
 empty-requires c κs = search needs
@@ -28,70 +11,13 @@ empty-requires c κs = search needs
 open-lists-requires : tie.Need-open-lists-requires
 open-lists-requires c κs = search needs
 
-refused-requires : tie.Need-refused-requires
-refused-requires c κs = search needs
+canonical-over-requires : tie.Need-canonical-over-requires
+canonical-over-requires c κs = search needs
 
 returns : tie.Need-returns
-unfolding spec.canonical
 returns c =
-    let s = c .before .before .before .before .before .args in
-    let x = c .before .before .before .open-lists in
-    let e = x .ensures ∙ ap (λ b. openedOf (baseRows (s .rows)) (opening (s .rows) (s .l) b)) (c .before .before .before .before .empty .ensures) in
-    let r = call-refuses (s .rows) (s .l) (pack []) (λ ks fs gs. work ks fs) _ (unopened-by (baseRows (s .rows)) _ (x .result) e (c .before .if1 .taken)) in
-    c .refused .ensures ∙ handed refusedBy madeOf (λ r. refl) _ _ r ∙ ap madeOf (sym (with-none (s .rows) (s .l) work))
-
-canonical-requires : tie.Need-canonical-requires
-canonical-requires c κs = search needs
-
-refused-requires-2 : tie.Need-refused-requires-2
-refused-requires-2 c κs = search needs
-
-returns-2 : tie.Need-returns-2
-unfolding spec.canonical
-returns-2 c =
-    let y = c .before .before .before in
-    let d = y .before .before in
-    let s = d .before .before .before .before .args in
-    let x = d .before .before .open-lists in
-    let e = x .ensures ∙ ap (λ b. openedOf (baseRows (s .rows)) (opening (s .rows) (s .l) b)) (d .before .before .before .empty .ensures) in
-    let o = open-by (baseRows (s .rows)) _ (x .result) e (d .if1 .left) in
-    let k = lists-known (s .l) (pack []) (s .rows) (o .are) (o .is) in
-    let v = view (o .are .rows) (o .are .first) (o .are .second) in
-    let f = y .canonical .ensures v (o .are .first) (o .first) (k .first-short) in
-    let same = first-form (o .are .rows) (o .are .first) (o .are .second) ∙ sym (with-none (s .rows) (s .l) work ∙ call-goes (s .rows) (s .l) (pack []) (λ ks fs gs. work ks fs) (o .are) (o .is)) in
-    c .refused2 .ensures ∙ handed refusedBy madeOf (λ r. refl) (canon (byPlace v) (o .are .first)) _ (unformed v (canon (byPlace v) (o .are .first)) (y .canonical .result) f (c .before .if2 .taken)) ∙ ap madeOf same
-
-factors-of-requires : tie.Need-factors-of-requires
-factors-of-requires c κs = search needs
-
-returns-3 : tie.Need-returns-3
-unfolding spec.canonical
-returns-3 c =
-    let y = c .before .before .before .before in
-    let d = y .before .before in
-    let s = d .before .before .before .before .args in
-    let x = d .before .before .open-lists in
-    let e = x .ensures ∙ ap (λ b. openedOf (baseRows (s .rows)) (opening (s .rows) (s .l) b)) (d .before .before .before .empty .ensures) in
-    let o = open-by (baseRows (s .rows)) _ (x .result) e (d .if1 .left) in
-    let k = lists-known (s .l) (pack []) (s .rows) (o .are) (o .is) in
-    let v = view (o .are .rows) (o .are .first) (o .are .second) in
-    let f = y .canonical .ensures v (o .are .first) (o .first) (k .first-short) in
-    let same = first-form (o .are .rows) (o .are .first) (o .are .second) ∙ sym (with-none (s .rows) (s .l) work ∙ call-goes (s .rows) (s .l) (pack []) (λ ks fs gs. work ks fs) (o .are) (o .is)) in
-    let z = formed v (canon (byPlace v) (o .are .first)) (y .canonical .result) f (c .before .before .if2 .left) in
-    let n = take-out (canon-short (byPlace v) (o .are .first)) (z .is) in
-    let m = k .first-short in
-    made-given (canon (byPlace v) (o .are .first)) (z .answer) (c .factors-of .result) (z .is) (c .factors-of .ensures v (z .answer) (z .list) (omega arith)) ∙ ap madeOf same
+    let s = c .before .before .before .args in
+    c .canonical-over .ensures (s .rows) (s .l) (c .before .open-lists .ensures ∙ ap (λ b. openedOf (baseRows (s .rows)) (opening (s .rows) (s .l) b)) (c .before .before .empty .ensures))
 
 pub canonical-spec : {M : Type 1} → statement M
-canonical-spec =
-    tie.close
-    (tie.spec
-    empty-requires
-    open-lists-requires
-    refused-requires
-    returns
-    canonical-requires
-    refused-requires-2
-    returns-2
-    factors-of-requires
-    returns-3)
+canonical-spec = tie.close (tie.spec empty-requires open-lists-requires canonical-over-requires returns)

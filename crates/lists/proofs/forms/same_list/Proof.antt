@@ -1,48 +1,18 @@
 -- `same_list` meets its contract.
 use borrow.Author.Needs.{needs}
-use mathlib.Core.Path.{refl, sym, ap, _∙_}
-use mathlib.Core.Bool.{Bool}
-use mathlib.Core.List.{List}
-use Rattle.exponents.specs.Outcome.{Outcome}
-use Rattle.units.specs.declared.Factor.{Factor}
-use Rattle.tables.specs.Rows.{Facts}
-use Rattle.canonical.specs.Order.{orderIn}
-use Rattle.canonical.specs.Equality.{equal, verdictOf}
-use Rattle.canonical.specs.declared.equality.Verdict.the-variants as verdict
-use Rattle.lists.specs.Opening.{baseRows}
-use Rattle.lists.specs.Calls.{sameLists}
-use Rattle.lists.proofs.Checks.{open-by, unopened-by, call-refuses, call-goes, lists-known}
-use Rattle.lists.proofs.Ends.{handed}
-use Rattle.lists.proofs.Views.{view, equal-agrees}
 use Rattle.lists.proofs.forms.same_list.Statement.{statement}
 use Rattle.lists.proofs.forms.same_list.Tie as tie
-
-abbrev work : List Facts → List Factor → List Factor → Outcome Bool
-work ks fs gs = equal (orderIn ks) fs gs
 
 open-lists-requires : tie.Need-open-lists-requires
 open-lists-requires c κs = search needs
 
+same-list-over-requires : tie.Need-same-list-over-requires
+same-list-over-requires c κs = search needs
+
 returns : tie.Need-returns
-unfolding sameLists
 returns c =
-    let s = c .before .before .before .args in
-    let x = c .before .before .open-lists in
-    handed verdict.Refused verdictOf (λ r. refl) _ _ (call-refuses (s .rows) (s .a) (s .b) work _ (unopened-by (baseRows (s .rows)) _ (x .result) (x .ensures) (c .if1 .taken)))
-
-equal-requires : tie.Need-equal-requires
-equal-requires c κs = search needs
-
-returns-2 : tie.Need-returns-2
-unfolding sameLists
-returns-2 c =
-    let d = c .before .before .before in
-    let s = d .before .before .before .args in
-    let x = d .before .before .open-lists in
-    let o = open-by (baseRows (s .rows)) _ (x .result) (x .ensures) (d .if1 .left) in
-    let k = lists-known (s .a) (s .b) (s .rows) (o .are) (o .is) in
-    c .equal .ensures (view (o .are .rows) (o .are .first) (o .are .second)) (o .are .first) (o .are .second) (o .first) (o .second) (k .first-short) (k .second-short)
-    ∙ ap verdictOf (equal-agrees (o .are .rows) (o .are .first) (o .are .second) ∙ sym (call-goes (s .rows) (s .a) (s .b) work (o .are) (o .is)))
+    let s = c .before .before .args in
+    c .same-list-over .ensures (s .rows) (s .a) (s .b) (c .before .open-lists .ensures)
 
 pub same-list-spec : {M : Type 1} → statement M
-same-list-spec = tie.close (tie.spec open-lists-requires returns equal-requires returns-2)
+same-list-spec = tie.close (tie.spec open-lists-requires same-list-over-requires returns)

@@ -1,53 +1,18 @@
 -- `is_multiple_of` meets its contract.
 use borrow.Author.Needs.{needs}
-use mathlib.Core.Path.{refl, sym, ap, _∙_}
-use mathlib.Core.List.{List, _++_}
-use native.Mathlib.Omega.{arith}
-use Rattle.exponents.specs.Outcome.{Outcome}
-use Rattle.units.specs.declared.Factor.{Factor}
-use Rattle.units.specs.declared.Rows.{Rows}
-use Rattle.tables.specs.Rows.{Facts, rowsOf}
-use Rattle.tables.proofs.Slotting.{slots-few}
-use Rattle.reduction.specs.Multiple.{Maybe, isMultiple, multipleIs}
-use Rattle.reduction.specs.declared.multiples.Multiple.the-variants as multiples
-use Rattle.lists.specs.Opening.{baseRows}
-use Rattle.lists.specs.Calls.{basesIn, multiple}
-use Rattle.lists.proofs.Checks.{open-by, unopened-by, call-refuses, call-goes, lists-known}
-use Rattle.lists.proofs.Ends.{handed, slots-len, bases-agree}
-use Rattle.lists.proofs.Views.{view}
 use Rattle.lists.proofs.reductions.is_multiple_of.Statement.{statement}
 use Rattle.lists.proofs.reductions.is_multiple_of.Tie as tie
-
-abbrev work : Rows → List Facts → List Factor → List Factor → Outcome Maybe
-work t ks fs gs = isMultiple (basesIn t ks) fs gs
 
 open-lists-requires : tie.Need-open-lists-requires
 open-lists-requires c κs = search needs
 
+is-multiple-of-over-requires : tie.Need-is-multiple-of-over-requires
+is-multiple-of-over-requires c κs = search needs
+
 returns : tie.Need-returns
-unfolding multiple
 returns c =
-    let s = c .before .before .before .args in
-    let x = c .before .before .open-lists in
-    handed multiples.Refused multipleIs (λ r. refl) _ _ (call-refuses (s .rows) (s .a) (s .b) (work (s .rows)) _ (unopened-by (baseRows (s .rows)) _ (x .result) (x .ensures) (c .if1 .taken)))
-
-is-multiple-of-requires : tie.Need-is-multiple-of-requires
-is-multiple-of-requires c κs = search needs
-
-returns-2 : tie.Need-returns-2
-unfolding multiple
-returns-2 c =
-    let d = c .before .before .before .before in
-    let s = d .before .before .before .args in
-    let x = d .before .before .open-lists in
-    let o = open-by (baseRows (s .rows)) _ (x .result) (x .ensures) (d .if1 .left) in
-    let k = lists-known (s .a) (s .b) (s .rows) (o .are) (o .is) in
-    let few = slots-few (rowsOf (s .rows)) in
-    let n = slots-len _ _ (o .slots) in
-    c .is-multiple-of .ensures (view (o .are .rows) (o .are .first) (o .are .second)) (o .are .first) (o .are .second) (o .first) (o .second) (k .first-short) (k .second-short) (omega arith) (k .first-shaped) (k .second-shaped)
-    ∙ ap (λ bs. multipleIs (isMultiple bs (o .are .first) (o .are .second))) (bases-agree (s .rows) (o .are .rows) (o .are .first ++ o .are .second) _ n)
-    ∙ ap multipleIs (sym (call-goes (s .rows) (s .a) (s .b) (work (s .rows)) (o .are) (o .is)))
+    let s = c .before .before .args in
+    c .is-multiple-of-over .ensures (s .rows) (s .a) (s .b) (c .before .open-lists .ensures)
 
 pub is-multiple-of-spec : {M : Type 1} → statement M
-is-multiple-of-spec =
-    tie.close (tie.spec open-lists-requires returns is-multiple-of-requires returns-2)
+is-multiple-of-spec = tie.close (tie.spec open-lists-requires is-multiple-of-over-requires returns)

@@ -1,28 +1,9 @@
 -- `reduce_list` meets its contract.
 use borrow.Author.Needs.{needs}
-use mathlib.Core.Path.{refl, sym, ap, _∙_}
-use mathlib.Core.List.{List, [], _++_}
-use native.Mathlib.Omega.{arith}
-use lib.Ieee.{Float}
-use Rattle.exponents.specs.Outcome.{Outcome}
-use Rattle.units.specs.declared.Factor.{Factor}
-use Rattle.units.specs.declared.Rows.{Rows}
-use Rattle.units.specs.Lists.{pack}
-use Rattle.tables.specs.Scale.{sizeBy}
-use Rattle.tables.specs.Rows.{Facts, scaleAt, rowsOf}
-use Rattle.tables.proofs.Slotting.{slots-few}
-use Rattle.reduction.specs.Reduction.{reduction, notReduced, reducedOf}
+use mathlib.Core.Path.{ap, _∙_}
 use Rattle.lists.specs.Opening.{baseRows, opening, openedOf}
-use Rattle.lists.specs.Calls as spec
-use Rattle.lists.specs.Calls.{basesIn}
-use Rattle.lists.proofs.Checks.{open-by, unopened-by, call-refuses, call-goes, with-none, lists-known}
-use Rattle.lists.proofs.Ends.{handed, bases-agree}
-use Rattle.lists.proofs.Views.{view}
 use Rattle.lists.proofs.reductions.reduce_list.Statement.{statement}
 use Rattle.lists.proofs.reductions.reduce_list.Tie as tie
-
-abbrev work : Rows → List Facts → List Factor → Outcome (List Factor × Float)
-work t ks fs = reduction (basesIn t ks) (sizeBy (scaleAt ks)) (baseRows t) fs
 
 empty-requires : tie.Need-empty-requires
 empty-requires c κs = search needs
@@ -30,42 +11,13 @@ empty-requires c κs = search needs
 open-lists-requires : tie.Need-open-lists-requires
 open-lists-requires c κs = search needs
 
-not-reduced-requires : tie.Need-not-reduced-requires
-not-reduced-requires c κs = search needs
+reduce-list-over-requires : tie.Need-reduce-list-over-requires
+reduce-list-over-requires c κs = search needs
 
 returns : tie.Need-returns
-unfolding spec.reduction
 returns c =
-    let s = c .before .before .before .before .before .args in
-    let x = c .before .before .before .open-lists in
-    let e = x .ensures ∙ ap (λ b. openedOf (baseRows (s .rows)) (opening (s .rows) (s .l) b)) (c .before .before .before .before .empty .ensures) in
-    let r = call-refuses (s .rows) (s .l) (pack []) (λ ks fs gs. work (s .rows) ks fs) _ (unopened-by (baseRows (s .rows)) _ (x .result) e (c .before .if1 .taken)) in
-    c .not-reduced .ensures ∙ handed notReduced reducedOf (λ r. refl) _ _ r ∙ ap reducedOf (sym (with-none (s .rows) (s .l) (work (s .rows))))
-
-reduce-list-requires : tie.Need-reduce-list-requires
-reduce-list-requires c κs = search needs
-
-returns-2 : tie.Need-returns-2
-unfolding spec.reduction
-returns-2 c =
-    let d = c .before .before .before in
-    let s = d .before .before .before .before .args in
-    let x = d .before .before .open-lists in
-    let e = x .ensures ∙ ap (λ b. openedOf (baseRows (s .rows)) (opening (s .rows) (s .l) b)) (d .before .before .before .empty .ensures) in
-    let o = open-by (baseRows (s .rows)) _ (x .result) e (d .if1 .left) in
-    let k = lists-known (s .l) (pack []) (s .rows) (o .are) (o .is) in
-    let few = slots-few (rowsOf (s .rows)) in
-    c .reduce-list .ensures (view (o .are .rows) (o .are .first) (o .are .second)) (o .are .first) (baseRows (s .rows)) (o .first) (o .slots) (k .first-short) (omega arith) (k .first-shaped)
-    ∙ ap (λ bs. reducedOf (reduction bs (sizeBy (scaleAt (o .are .rows))) (baseRows (s .rows)) (o .are .first))) (bases-agree (s .rows) (o .are .rows) (o .are .first ++ o .are .second) _ refl)
-    ∙ ap reducedOf (sym (with-none (s .rows) (s .l) (work (s .rows)) ∙ call-goes (s .rows) (s .l) (pack []) (λ ks fs gs. work (s .rows) ks fs) (o .are) (o .is)))
+    let s = c .before .before .before .args in
+    c .reduce-list-over .ensures (s .rows) (s .l) (c .before .open-lists .ensures ∙ ap (λ b. openedOf (baseRows (s .rows)) (opening (s .rows) (s .l) b)) (c .before .before .empty .ensures))
 
 pub reduce-list-spec : {M : Type 1} → statement M
-reduce-list-spec =
-    tie.close
-    (tie.spec
-    empty-requires
-    open-lists-requires
-    not-reduced-requires
-    returns
-    reduce-list-requires
-    returns-2)
+reduce-list-spec = tie.close (tie.spec empty-requires open-lists-requires reduce-list-over-requires returns)

@@ -1,130 +1,18 @@
 -- `smaller_unit` meets its contract.
 use borrow.Author.Needs.{needs}
-use mathlib.Core.Path.{refl, sym, ap, _∙_}
-use mathlib.Core.List.{List, _++_}
-use native.Mathlib.Omega.{arith}
-use Rattle.exponents.specs.Outcome.{Outcome, map}
-use Rattle.units.specs.declared.Factor.{Factor}
-use Rattle.units.specs.declared.Rows.{Rows}
-use Rattle.units.specs.Lists.{refusedBy, madeOf}
-use Rattle.tables.specs.Scale.{sizeBy}
-use Rattle.tables.specs.Rows.{pick, Facts, scaleAt, rowsOf}
-use Rattle.tables.proofs.Slotting.{slots-few}
-use Rattle.reduction.specs.Reduction.{smallerUnit, smallerOf}
-use Rattle.lists.specs.Opening.{baseRows}
-use Rattle.lists.specs.Calls as spec
-use Rattle.lists.specs.Calls.{basesIn}
-use Rattle.lists.proofs.Checks.{open-by, unopened-by, call-refuses, call-goes, lists-known}
-use Rattle.lists.proofs.Ends.{handed, first-chosen, second-chosen, neither-chosen, slots-len, bases-agree}
-use Rattle.lists.proofs.Views.{view}
 use Rattle.lists.proofs.reductions.smaller_unit.Statement.{statement}
 use Rattle.lists.proofs.reductions.smaller_unit.Tie as tie
-
-abbrev work : Rows → List Facts → List Factor → List Factor → Outcome (List Factor)
-work t ks fs gs = map (λ first. pick first fs gs) (smallerUnit (basesIn t ks) (sizeBy (scaleAt ks)) fs gs)
 
 open-lists-requires : tie.Need-open-lists-requires
 open-lists-requires c κs = search needs
 
-refused-requires : tie.Need-refused-requires
-refused-requires c κs = search needs
+smaller-unit-over-requires : tie.Need-smaller-unit-over-requires
+smaller-unit-over-requires c κs = search needs
 
 returns : tie.Need-returns
-unfolding spec.smallerUnit
 returns c =
-    let s = c .before .before .before .before .args in
-    let x = c .before .before .before .open-lists in
-    c .refused .ensures ∙ handed refusedBy madeOf (λ r. refl) _ _ (call-refuses (s .rows) (s .a) (s .b) (work (s .rows)) _ (unopened-by (baseRows (s .rows)) _ (x .result) (x .ensures) (c .before .if1 .taken)))
-
-smaller-unit-requires : tie.Need-smaller-unit-requires
-smaller-unit-requires c κs = search needs
-
-enum-told : tie.Need-enum-told
-enum-told c = search needs
-
-factors-of-requires : tie.Need-factors-of-requires
-factors-of-requires c κs = search needs
-
-enum-told-2 : tie.Need-enum-told-2
-enum-told-2 c = search needs
-
-factors-of-requires-2 : tie.Need-factors-of-requires-2
-factors-of-requires-2 c κs = search needs
-
-enum-known-w : tie.Need-enum-known-w
-enum-known-w c = search needs
-
-refused-requires-2 : tie.Need-refused-requires-2
-refused-requires-2 c κs = search needs
-
-returns-2 : tie.Need-returns-2
-unfolding spec.smallerUnit
-returns-2 c =
-    let m = c .before .before .before in
-    let d = m .before .before .before .before in
-    let s = d .before .before .before .args in
-    let x = d .before .before .open-lists in
-    let o = open-by (baseRows (s .rows)) _ (x .result) (x .ensures) (d .if1 .left) in
-    let k = lists-known (s .a) (s .b) (s .rows) (o .are) (o .is) in
-    let few = slots-few (rowsOf (s .rows)) in
-    let n = slots-len _ _ (o .slots) in
-    let v = view (o .are .rows) (o .are .first) (o .are .second) in
-    let w = m .smaller-unit .ensures v (o .are .first) (o .are .second) (o .first) (o .second) (k .first-short) (k .second-short) (omega arith) (k .first-shaped) (k .second-shaped)
-    ∙ ap (λ bs. smallerOf (smallerUnit bs (sizeBy (scaleAt (o .are .rows))) (o .are .first) (o .are .second))) (bases-agree (s .rows) (o .are .rows) (o .are .first ++ o .are .second) _ n) in
-    let q = smallerUnit (basesIn (s .rows) (o .are .rows)) (sizeBy (scaleAt (o .are .rows))) (o .are .first) (o .are .second) in
-    let same = sym (call-goes (s .rows) (s .a) (s .b) (work (s .rows)) (o .are) (o .is)) in
-    first-chosen q (o .are .first) (o .are .second) (c .factors-of .result) (sym w ∙ c .before .enum-told .given .1) (c .factors-of .ensures v (o .are .first) (o .first) (k .first-short)) ∙ ap madeOf same
-
-returns-3 : tie.Need-returns-3
-unfolding spec.smallerUnit
-returns-3 c =
-    let m = c .before .before .before in
-    let d = m .before .before .before .before in
-    let s = d .before .before .before .args in
-    let x = d .before .before .open-lists in
-    let o = open-by (baseRows (s .rows)) _ (x .result) (x .ensures) (d .if1 .left) in
-    let k = lists-known (s .a) (s .b) (s .rows) (o .are) (o .is) in
-    let few = slots-few (rowsOf (s .rows)) in
-    let n = slots-len _ _ (o .slots) in
-    let v = view (o .are .rows) (o .are .first) (o .are .second) in
-    let w = m .smaller-unit .ensures v (o .are .first) (o .are .second) (o .first) (o .second) (k .first-short) (k .second-short) (omega arith) (k .first-shaped) (k .second-shaped)
-    ∙ ap (λ bs. smallerOf (smallerUnit bs (sizeBy (scaleAt (o .are .rows))) (o .are .first) (o .are .second))) (bases-agree (s .rows) (o .are .rows) (o .are .first ++ o .are .second) _ n) in
-    let q = smallerUnit (basesIn (s .rows) (o .are .rows)) (sizeBy (scaleAt (o .are .rows))) (o .are .first) (o .are .second) in
-    let same = sym (call-goes (s .rows) (s .a) (s .b) (work (s .rows)) (o .are) (o .is)) in
-    second-chosen q (o .are .first) (o .are .second) (c .factors-of2 .result) (sym w ∙ c .before .enum-told2 .given .1) (c .factors-of2 .ensures v (o .are .second) (o .second) (k .second-short)) ∙ ap madeOf same
-
-returns-4 : tie.Need-returns-4
-unfolding spec.smallerUnit
-returns-4 c =
-    let m = c .before .before .before .before in
-    let d = m .before .before .before .before in
-    let s = d .before .before .before .args in
-    let x = d .before .before .open-lists in
-    let o = open-by (baseRows (s .rows)) _ (x .result) (x .ensures) (d .if1 .left) in
-    let k = lists-known (s .a) (s .b) (s .rows) (o .are) (o .is) in
-    let few = slots-few (rowsOf (s .rows)) in
-    let n = slots-len _ _ (o .slots) in
-    let v = view (o .are .rows) (o .are .first) (o .are .second) in
-    let w = m .smaller-unit .ensures v (o .are .first) (o .are .second) (o .first) (o .second) (k .first-short) (k .second-short) (omega arith) (k .first-shaped) (k .second-shaped)
-    ∙ ap (λ bs. smallerOf (smallerUnit bs (sizeBy (scaleAt (o .are .rows))) (o .are .first) (o .are .second))) (bases-agree (s .rows) (o .are .rows) (o .are .first ++ o .are .second) _ n) in
-    let q = smallerUnit (basesIn (s .rows) (o .are .rows)) (sizeBy (scaleAt (o .are .rows))) (o .are .first) (o .are .second) in
-    let same = sym (call-goes (s .rows) (s .a) (s .b) (work (s .rows)) (o .are) (o .is)) in
-    c .refused2 .ensures ∙ neither-chosen q (o .are .first) (o .are .second) _ (sym w ∙ c .before .before .w .given .1) ∙ ap madeOf same
+    let s = c .before .before .args in
+    c .smaller-unit-over .ensures (s .rows) (s .a) (s .b) (c .before .open-lists .ensures)
 
 pub smaller-unit-spec : {M : Type 1} → statement M
-smaller-unit-spec =
-    tie.close
-    (tie.spec
-    open-lists-requires
-    refused-requires
-    returns
-    smaller-unit-requires
-    enum-told
-    factors-of-requires
-    enum-told-2
-    factors-of-requires-2
-    enum-known-w
-    refused-requires-2
-    returns-2
-    returns-3
-    returns-4)
+smaller-unit-spec = tie.close (tie.spec open-lists-requires smaller-unit-over-requires returns)

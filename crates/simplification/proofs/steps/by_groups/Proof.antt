@@ -84,8 +84,8 @@ loop-again c v cs ec lc ln sc =
     (wg .with-group .ensures .1 v (a .targets) cs (group (rulesBy v (s .n)) cs (lp .loop .p .next)) (a .unit) ec refl (a .few) lc (omega (arith, wg .before .if2 .taken)) ln sc)
     (c .if3 .left)
 
-canonical-requires : tie.Need-canonical-requires Inv-loop μ-loop
-canonical-requires c κs = search needs
+merged-requires : tie.Need-merged-requires Inv-loop μ-loop
+merged-requires c κs = search needs
 
 refused-requires-3 : tie.Need-refused-requires-3 Inv-loop μ-loop
 refused-requires-3 c κs = search needs
@@ -99,8 +99,8 @@ returns-3 c why v cs er ec lc ln sc =
     let a = lp .loop .inv v cs ec lc ln sc in
     let long = len-items v cs (s .c) ec in
     let same = ca .capped .ensures .1 (omega arith) in
-    let e = ka .canonical .ensures v (a .targets) (a .unit) (omega (arith, a .few, a .within)) in
-    let r = along-unformed v (s .n) cs (lp .loop .p) a (s .x) (omega (arith, ka .before .before .if2 .left)) _ (unformed v (canon (byPlace v) (a .targets)) (ka .canonical .result) e (c .before .if4 .taken)) in
+    let e = ka .merged .ensures v (a .targets) (a .unit) (omega (arith, a .few, a .within)) in
+    let r = along-unformed v (s .n) cs (lp .loop .p) a (s .x) (omega (arith, ka .before .before .if2 .left)) _ (unformed v (canon (byPlace v) (a .targets)) (ka .merged .result) e (c .before .if4 .taken)) in
     c .refused3 .ensures ∙ unanswered _ _ (map-refuses quantityOf _ _ (refuses-as _ _ _ (goes-on why _ (sym er ∙ ca .before .if1 .left)) r))
 
 factors-of-requires : tie.Need-factors-of-requires Inv-loop μ-loop
@@ -120,8 +120,8 @@ returns-4 c why v cs er ec lc ln sc =
     let a = lp .loop .inv v cs ec lc ln sc in
     let long = len-items v cs (s .c) ec in
     let same = ca .capped .ensures .1 (omega arith) in
-    let e = ka .canonical .ensures v (a .targets) (a .unit) (omega (arith, a .few, a .within)) in
-    let f = formed v (canon (byPlace v) (a .targets)) (ka .canonical .result) e (no .if4 .left) in
+    let e = ka .merged .ensures v (a .targets) (a .unit) (omega (arith, a .few, a .within)) in
+    let f = formed v (canon (byPlace v) (a .targets)) (ka .merged .result) e (no .if4 .left) in
     let short = take-out (canon-short (byPlace v) (a .targets)) (f .is) in
     let w = along-end v (s .n) cs (lp .loop .p) a (s .x) (omega (arith, ka .before .before .if2 .left)) (f .answer) (f .is) in
     c .with-mark .ensures (f .answer) (fo .factors-of .ensures v (f .answer) (f .list) (omega (arith, a .few, a .within)))
@@ -143,7 +143,7 @@ by-groups-spec =
     returns-2
     loop-less
     loop-again
-    canonical-requires
+    merged-requires
     refused-requires-3
     returns-3
     factors-of-requires

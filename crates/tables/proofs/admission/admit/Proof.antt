@@ -1,354 +1,197 @@
--- `admit` meets its contract. The outer invariant: the rows before i are admitted; the inner one: the rows that the definition's first j factors name are gathered.
+-- `admit` meets its contract. The invariant: the rows before i are admitted.
 use borrow.Author.Needs.{needs}
-use mathlib.Core.Path.{_≡_, refl, sym, ap, _∙_, subst}
-use mathlib.Core.Bool.{Bool, true, false, not, _||_}
-use mathlib.Core.List.{[], map}
+use mathlib.Core.Path.{_≡_, sym, ap, _∙_, subst}
+use mathlib.Core.Bool.{Bool}
+use mathlib.Core.List.{List, [], _∷_}
 use Prim.Native.Nat.{ℕ, _+_, _-_, _≤_, _<_}
 use native.Mathlib.Omega.{arith}
-use lib.Dec.{ltb}
-use lib.ListN.{length, take, drop, getD, set, replicate, length-set}
-use lib.Seq.{take-all, length-take-le}
-use borrow.Author.Tests.{lt-ltb, le-ltb, ltb-false}
-use Rattle.exponents.specs.Outcome.{TABLE, SHAPE}
-use Rattle.exponents.proofs.InRange.{or-right}
-use Rattle.units.specs.declared.Factor.{Factor}
-use Rattle.units.specs.Lists.{some}
-use Rattle.tables.specs.declared.Known.{Known}
-use Rattle.tables.specs.declared.Slots.{Slots}
-use Rattle.tables.specs.Rows.{slots, kindFault, defOf, workedOut, workedOf, rowsOf, packKnown, blankKnown, found}
-use Rattle.tables.proofs.Terms.{unmapped, nilFactor, nilKnown}
+use lib.IntN.{ℤ}
+use lib.Ieee.{Float}
+use lib.ListN.{length, drop}
+use Rattle.exponents.specs.Outcome.{TABLE}
+use Rattle.units.specs.declared.Row.{Row}
+use Rattle.tables.specs.declared.Admitted.{Admitted}
+use Rattle.tables.specs.Rows.{Admission, stopped, admitFrom, admit, slots, rowsOf}
+use Rattle.tables.specs.Pages.{Room, Pages, admittedOf}
+use Rattle.tables.proofs.Terms.{unmapped, nilRow}
 use Rattle.tables.proofs.Placing.{len-slots}
-use Rattle.tables.proofs.Slotting.{slots-few}
-use Rattle.tables.proofs.Search.{found-one, found-none, none-left}
-use Rattle.tables.proofs.Admitting.{Admitting, admitting-none, over, early, names, early-fault, name-fault, shape-fault, sound-row, few, few-more, admit-end, gathered, gather-on, stop, early-of, names-of, refuses-of, more-of}
+use Rattle.tables.proofs.Slotting.{slots-few, long-rows, row-here}
+use Rattle.tables.proofs.Admitting.{Admitting, Tells, admitting-none, admitting-on, admitting-off, admitting-end, within, over}
 use Rattle.tables.proofs.admission.admit.Statement.{statement}
 use Rattle.tables.proofs.admission.admit.Tie as tie
 
--- the factor names its own or a higher row
-abbrev high : ℕ → Factor → Bool
-high i f = not (ltb (f .row) i)
-
-abbrev Inv-loop2 : tie.InvT-loop2
-Inv-loop2 rows n slots none known ranks bases i row m met named₀ j₀ named j =
-    (j ≤ m)
-    × (m ≤ 8)
-    × (length named ≡ 8)
-    × (take j named ≡ map (λ f. getD known (f .row) nilKnown) (take j (defOf row)))
-    × (some (high i) (defOf row) ≡ some (high i) (drop j (defOf row)))
-
-abbrev μ-loop2 : tie.MeasureT-loop2
-μ-loop2 rows n slots none known ranks bases i row m met named₀ j₀ named j = m - j
-
 abbrev Inv-loop : tie.InvT-loop
-Inv-loop rows n slots none known₀ ranks₀ bases₀ i₀ known ranks bases i =
-    (i ≤ n) × (length known ≡ 128) × (length ranks ≡ 128) × (bases ≤ 16) × Admitting rows known ranks bases i
+Inv-loop nums₀ dens₀ scales₀ ranks₀ based₀ rows n slots₀ bases₀ i₀ nums dens scales ranks based bases i =
+    (i ≤ n) × Room nums dens scales ranks based × Admitting (slots (rowsOf rows)) (rowsOf rows) bases i nums dens scales ranks based
 
 abbrev μ-loop : tie.MeasureT-loop
-μ-loop rows n slots none known₀ ranks₀ bases₀ i₀ known ranks bases i = n - i
+μ-loop nums₀ dens₀ scales₀ ranks₀ based₀ rows n slots₀ bases₀ i₀ nums dens scales ranks based bases i = n - i
 
-full : (c : tie.Start Inv-loop2 μ-loop2 Inv-loop μ-loop) → length (c .args .t1 .at) ≡ 128
+full : (c : tie.Start Inv-loop μ-loop) → length (c .args .t1 .at) ≡ 128
 full c = search (needs, unmapped)
 
-def-full : (c : tie.After-taken Inv-loop2 μ-loop2 Inv-loop μ-loop) → length (c .taken .result .def) ≡ 8
-def-full c = search (needs, unmapped)
+abbrev start : tie.At-loop Inv-loop μ-loop → tie.Start Inv-loop μ-loop
+start k = k .before .before .before .before .before .before .before
 
--- the table is not over 128 rows, and i is one of them
-small : (c : tie.After-row-fault Inv-loop2 μ-loop2 Inv-loop μ-loop) → c .before .before .before .before .before .before .before .before .before .before .args .t1 .len ≤ 128
-small c = c .before .before .before .before .before .before .before .before .before .if1 .left
+abbrev turn : tie.After-admit-row Inv-loop μ-loop → tie.At-loop Inv-loop μ-loop
+turn q = q .before .before .before .before .before .before .before .before .before
 
-inside : (c : tie.After-row-fault Inv-loop2 μ-loop2 Inv-loop μ-loop) → c .before .before .before .before .before .before .loop .i < c .before .before .before .before .before .before .before .before .before .before .args .t1 .len
-inside c = c .before .before .before .before .before .loop-test .taken
+abbrev row : tie.After-slice-known8 Inv-loop μ-loop → tie.After-admit-row Inv-loop μ-loop
+row d = d .before .before .before .before .before .before .before .before .before
 
--- what is tested first of a row: its rank, kind and length
-early-c : (c : tie.After-row-fault Inv-loop2 μ-loop2 Inv-loop μ-loop)
-    → c .row-fault .result ≡ early (slots (rowsOf (c .before .before .before .before .before .before .before .before .before .before .args .t1))) (c .before .before .before .before .before .before .loop .inv .4 .ks) (c .before .before .before .taken .result)
-early-c c =
-    let s : tie.Start Inv-loop2 μ-loop2 Inv-loop μ-loop = c .before .before .before .before .before .before .before .before .before .before in
-    let o = c .before .before .before .before .before .before .loop in
-    let t = c .before .before .before .taken in
-    c .row-fault .ensures ∙ early-of (s .args .t1) (o .known) (o .ranks) (o .bases) (o .i) (full s) (small (c)) (o .inv .4) (inside (c)) (t .result) (t .ensures) (c .before .rank-met .result) (c .before .rank-met .ensures)
+small : (k : tie.At-loop Inv-loop μ-loop) → start k .args .t1 .len ≤ 128
+small k = k .before .before .if1 .left
 
--- its length is at most 8
-short : (c : tie.Else2 Inv-loop2 μ-loop2 Inv-loop μ-loop) → c .before .before .before .before .taken .result .len ≤ 8
-short c =
-    let t = c .before .before .before .before .taken in
-    ltb-false 8 (t .result .len) (or-right (c .before .before .rank-met .result || kindFault (t .result .kind) (c .before .before .before .before .before .before .before .loop .bases) (t .result .len)) (ltb 8 (t .result .len)) (sym (c .before .row-fault .ensures) ∙ c .if2 .left))
+-- the row that is taken out is the table's row i
+here : (q : tie.After-admit-row Inv-loop μ-loop) → drop (turn q .loop .i) (rowsOf (start (turn q) .args .t1)) ≡ q .before .before .before .before .before .before .taken .result ∷ drop (turn q .loop .i + 1) (rowsOf (start (turn q) .args .t1))
+here q =
+    let k = turn q in
+    let t = q .before .before .before .before .before .before in
+    row-here (start k .args .t1) (full (start k)) (small k) (k .loop .i) nilRow (t .before .before .loop-test .taken) ∙ ap (λ (r : Row). r ∷ drop (k .loop .i + 1) (rowsOf (start k .args .t1))) (sym (t .taken .ensures))
 
-none : replicate 128 blankKnown ≡ packKnown []
-unfolding packKnown
-none = refl
+-- what is told of the rows is told of the table
+whole : (k : tie.At-loop Inv-loop μ-loop) (r : Admitted) (nums : List ℤ) (dens : List ℕ) (scales : List Float) (ranks : List ℕ) (based : List Bool)
+    → Tells (slots (rowsOf (start k .args .t1))) (admitFrom (slots (rowsOf (start k .args .t1))) [] (rowsOf (start k .args .t1))) r nums dens scales ranks based
+    → Tells (slots (rowsOf (start k .args .t1))) (admit (start k .args .t1)) r nums dens scales ranks based
+whole k r nums dens scales ranks based = subst (λ (a : Admission). Tells (slots (rowsOf (start k .args .t1))) a r nums dens scales ranks based) (sym (within (start k .args .t1) (small k)))
 
-refused-requires : tie.Need-refused-requires Inv-loop2 μ-loop2 Inv-loop μ-loop
+refused-requires : tie.Need-refused-requires Inv-loop μ-loop
 refused-requires c κs = search needs
 
-returns : tie.Need-returns Inv-loop2 μ-loop2 Inv-loop μ-loop
-returns c = c .refused .ensures ∙ over (c .before .before .args .t1) (c .before .if1 .taken)
+returns : tie.Need-returns Inv-loop μ-loop
+returns c =
+    let s : tie.Start Inv-loop μ-loop = c .before .before .before .before .before .before in
+    let all = slots (rowsOf (s .args .t1)) in
+    let is : admit (s .args .t1) ≡ stopped TABLE [] = over (s .args .t1) (c .before .if1 .taken) in
+    (c .refused .ensures ∙ sym (ap (admittedOf all) is), s .pre, subst (λ (a : Admission). Pages a (s .args .nums .now) (s .args .dens .now) (s .args .scales .now) (s .args .ranks .now) (s .args .based .now)) (sym is) tt)
 
-slots-of-requires : tie.Need-slots-of-requires Inv-loop2 μ-loop2 Inv-loop μ-loop
+slots-of-requires : tie.Need-slots-of-requires Inv-loop μ-loop
 slots-of-requires c κs = search needs
 
-blank-requires : tie.Need-blank-requires Inv-loop2 μ-loop2 Inv-loop μ-loop
-blank-requires c κs = search needs
+loop-holds : tie.Need-loop-holds Inv-loop μ-loop
+loop-holds c = let s : tie.Start Inv-loop μ-loop = c .before .before .before .before .before .before in (omega arith, s .pre, admitting-none (slots (rowsOf (s .args .t1))) (rowsOf (s .args .t1)) _ _ _ _ _)
 
-loop-holds : tie.Need-loop-holds Inv-loop2 μ-loop2 Inv-loop μ-loop
-loop-holds c = (omega arith, refl, refl, omega arith, admitting-none (c .before .before .before .args .t1) _ _ (ap (λ (k : Known). replicate 128 k) (c .blank .ensures) ∙ none))
-
-mul-taken : tie.Need-mul-taken Inv-loop2 μ-loop2 Inv-loop μ-loop
+mul-taken : tie.Need-mul-taken Inv-loop μ-loop
 mul-taken c = search needs
 
-element-copy-out-taken : tie.Need-element-copy-out-taken Inv-loop2 μ-loop2 Inv-loop μ-loop
+element-copy-out-taken : tie.Need-element-copy-out-taken Inv-loop μ-loop
 element-copy-out-taken c = search needs
 
-taken-requires : tie.Need-taken-requires Inv-loop2 μ-loop2 Inv-loop μ-loop
+taken-requires : tie.Need-taken-requires Inv-loop μ-loop
 taken-requires c κs = search needs
 
-slice-aggregate-rank-met : tie.Need-slice-aggregate-rank-met Inv-loop2 μ-loop2 Inv-loop μ-loop
-slice-aggregate-rank-met c = search needs
+admit-row-requires : tie.Need-admit-row-requires Inv-loop μ-loop
+admit-row-requires c κs =
+    let k : tie.At-loop Inv-loop μ-loop = c .before .before .before .before .before .before .before .before in
+    let z = k .before .slots-of in
+    let low : k .loop .i < start k .args .t1 .len = c .before .before .before .before .before .before .before .loop-test .taken in
+    let most : start k .args .t1 .len ≤ 128 = small k in
+    (omega arith, omega (arith, len-slots (z .result) _ (z .ensures), slots-few (rowsOf (start k .args .t1))), k .loop .inv .1)
 
-rank-met-requires : tie.Need-rank-met-requires Inv-loop2 μ-loop2 Inv-loop μ-loop
-rank-met-requires c κs = search needs
-
-row-fault-requires : tie.Need-row-fault-requires Inv-loop2 μ-loop2 Inv-loop μ-loop
-row-fault-requires c κs = search needs
-
-refused-requires-2 : tie.Need-refused-requires-2 Inv-loop2 μ-loop2 Inv-loop μ-loop
+refused-requires-2 : tie.Need-refused-requires-2 Inv-loop μ-loop
 refused-requires-2 c κs = search needs
 
-returns-2 : tie.Need-returns-2 Inv-loop2 μ-loop2 Inv-loop μ-loop
+same-length : tie.Need-same-length Inv-loop μ-loop
+same-length c = let q = row (c .before .before) in q .admit-row .ensures .0 .0 ∙ sym (start (turn q) .pre .0)
+
+same-length-2 : tie.Need-same-length-2 Inv-loop μ-loop
+same-length-2 c = let q = row (c .before .before) in q .admit-row .ensures .0 .1 ∙ sym (start (turn q) .pre .1)
+
+same-length-3 : tie.Need-same-length-3 Inv-loop μ-loop
+same-length-3 c = let q = row (c .before .before) in q .admit-row .ensures .0 .2 ∙ sym (start (turn q) .pre .2)
+
+same-length-4 : tie.Need-same-length-4 Inv-loop μ-loop
+same-length-4 c = let q = row (c .before .before) in q .admit-row .ensures .0 .3 ∙ sym (start (turn q) .pre .3)
+
+same-length-5 : tie.Need-same-length-5 Inv-loop μ-loop
+same-length-5 c = let q = row (c .before .before) in q .admit-row .ensures .0 .4 ∙ sym (start (turn q) .pre .4)
+
+returns-2 : tie.Need-returns-2 Inv-loop μ-loop
 returns-2 c =
-    let f : tie.After-row-fault Inv-loop2 μ-loop2 Inv-loop μ-loop = c .before .before in
-    let s : tie.Start Inv-loop2 μ-loop2 Inv-loop μ-loop = f .before .before .before .before .before .before .before .before .before .before in
-    let o = f .before .before .before .before .before .before .loop in
-    let t = f .before .before .before .taken in
-    c .refused2 .ensures
-    ∙ stop (s .args .t1) (o .known) (o .ranks) (o .bases) (o .i) (full s) (small (f)) (o .inv .4) (inside (f)) (t .result) (t .ensures) 1
-    (record { why = TABLE; is = early-fault _ _ (t .result) (sym (early-c f) ∙ c .before .if2 .taken); numbered = refl })
+    let q = row (c .before .before) in
+    let k = turn q in
+    let all = slots (rowsOf (start k .args .t1)) in
+    let a = k .loop .inv .2 in
+    let t =
+    whole k _ _ _ _ _ _
+    (admitting-off all (rowsOf (start k .args .t1)) _ _ _ _ _ _ _ a _ (here q) (q .admit-row .result) _ _ _ _ _
+    (q .admit-row .ensures .1 all (a .ks) (k .before .slots-of .ensures) (a .at) (a .bases-are) (a .paged)) (c .before .if2 .taken)) in
+    (c .refused2 .ensures ∙ t .0, q .admit-row .ensures .0, t .1)
 
-loop2-holds : tie.Need-loop2-holds Inv-loop2 μ-loop2 Inv-loop μ-loop
-loop2-holds c = (omega arith, short c, refl, refl, refl)
+counted-requires : tie.Need-counted-requires Inv-loop μ-loop
+counted-requires c κs = turn (row (c .before)) .loop .inv .2 .few
 
-mul-f : tie.Need-mul-f Inv-loop2 μ-loop2 Inv-loop μ-loop
-mul-f c = search needs
-
-element-copy-out-f : tie.Need-element-copy-out-f Inv-loop2 μ-loop2 Inv-loop μ-loop
-element-copy-out-f c = search needs
-
-cast-r : tie.Need-cast-r Inv-loop2 μ-loop2 Inv-loop μ-loop
-cast-r c = search needs
-
-refused-requires-3 : tie.Need-refused-requires-3 Inv-loop2 μ-loop2 Inv-loop μ-loop
-refused-requires-3 c κs = search needs
-
-returns-3 : tie.Need-returns-3 Inv-loop2 μ-loop2 Inv-loop μ-loop
-returns-3 c =
-    let f : tie.After-row-fault Inv-loop2 μ-loop2 Inv-loop μ-loop = c .before .before .before .before .before .before .before in
-    let s : tie.Start Inv-loop2 μ-loop2 Inv-loop μ-loop = f .before .before .before .before .before .before .before .before .before .before in
-    let o = f .before .before .before .before .before .before .loop in
-    let k = c .before .before .before .before .before .loop2 in
-    let t = f .before .before .before .taken in
-    let l = def-full (f .before .before .before) in
-    let high-one : true ≡ some (high (o .i)) (defOf (t .result)) = found-one (high (o .i)) (t .result .def) (t .result .len) nilFactor (k .j) (omega arith) (k .inv .4) (omega arith) (ap not (le-ltb _ (o .i) (c .before .if3 .taken))) in
-    c .refused3 .ensures
-    ∙ stop (s .args .t1) (o .known) (o .ranks) (o .bases) (o .i) (full s) (small (f)) (o .inv .4) (inside (f)) (t .result) (t .ensures) 1
-    (record { why = TABLE; is = name-fault _ _ (t .result) (sym (names-of (s .args .t1) (o .known) (o .ranks) (o .bases) (o .i) (full s) (small (f)) (o .inv .4) (inside (f)) (t .result) (t .ensures)) ∙ sym high-one); numbered = refl })
-
-mul-k : tie.Need-mul-k Inv-loop2 μ-loop2 Inv-loop μ-loop
-mul-k c = search needs
-
-array-copy-out-k : tie.Need-array-copy-out-k Inv-loop2 μ-loop2 Inv-loop μ-loop
-array-copy-out-k c = search needs
-
-mul-named : tie.Need-mul-named Inv-loop2 μ-loop2 Inv-loop μ-loop
-mul-named c = search needs
-
-array-set-from-named : tie.Need-array-set-from-named Inv-loop2 μ-loop2 Inv-loop μ-loop
-array-set-from-named c = search needs
-
-add-j : tie.Need-add-j Inv-loop2 μ-loop2 Inv-loop μ-loop
-add-j c = search needs
-
-loop2-less : tie.Need-loop2-less Inv-loop2 μ-loop2 Inv-loop μ-loop
-loop2-less c = omega arith
-
-loop2-again : tie.Need-loop2-again Inv-loop2 μ-loop2 Inv-loop μ-loop
-loop2-again c =
-    let k = c .before .before .before .before .before .loop2 in
-    let f : tie.After-row-fault Inv-loop2 μ-loop2 Inv-loop μ-loop = c .before .before .before .before .before .before .before in
-    let o = f .before .before .before .before .before .before .loop in
-    let t = f .before .before .before .taken in
-    let l = def-full (f .before .before .before) in (
-      omega arith,
-      k .inv .1,
-      length-set (k .named) (k .j) (getD (o .known) (getD (t .result .def) (k .j) nilFactor .row) nilKnown) ∙ k .inv .2,
-      gather-on (o .known) (t .result .def) (t .result .len) (k .j) (k .named) (k .inv .2) (omega arith) l (omega arith) (k .inv .3),
-      found-none (high (o .i)) (t .result .def) (t .result .len) nilFactor (k .j) (omega arith) (k .inv .4) (omega arith) (ap not (lt-ltb _ (o .i) (c .before .if3 .left))),
-    )
-
--- after the inner loop no factor names a row that is not before, and what they name is gathered
-names-c : (c : tie.After-loop2 Inv-loop2 μ-loop2 Inv-loop μ-loop)
-    → names (slots (rowsOf (c .before .before .before .before .before .before .before .before .before .before .before .before .before .args .t1))) (c .before .before .before .before .before .before .before .before .before .loop .inv .4 .ks) (c .before .before .before .before .before .before .taken .result) ≡ false
-names-c c =
-    let s : tie.Start Inv-loop2 μ-loop2 Inv-loop μ-loop = c .before .before .before .before .before .before .before .before .before .before .before .before .before in
-    let o = c .before .before .before .before .before .before .before .before .before .loop in
-    let k = c .before .loop2 in
-    let t = c .before .before .before .before .before .before .taken in
-    let l = def-full (c .before .before .before .before .before .before) in
-    sym (names-of (s .args .t1) (o .known) (o .ranks) (o .bases) (o .i) (full s) (small (c .before .before .before)) (o .inv .4) (inside (c .before .before .before)) (t .result) (t .ensures))
-    ∙ sym (none-left (high (o .i)) (t .result .def) (t .result .len) nilFactor (k .j) (omega arith) (k .inv .4) (omega arith))
-
-gathered-c : (c : tie.After-loop2 Inv-loop2 μ-loop2 Inv-loop μ-loop)
-    → take (c .before .before .before .before .before .before .taken .result .len) (c .before .loop2 .named) ≡ map (found (c .before .before .before .before .before .before .before .before .before .loop .inv .4 .ks)) (defOf (c .before .before .before .before .before .before .taken .result))
-gathered-c c =
-    let o = c .before .before .before .before .before .before .before .before .before .loop in
-    let k = c .before .loop2 in
-    let t = c .before .before .before .before .before .before .taken in
-    let l = def-full (c .before .before .before .before .before .before) in
-    let e : k .j ≡ t .result .len = omega arith in
-    let whole : take (k .j) (defOf (t .result)) ≡ defOf (t .result) = take-all (k .j) (defOf (t .result)) (omega (arith, length-take-le (t .result .len) (t .result .def) (omega arith))) in
-    ap (λ (n : ℕ). take n (k .named)) (sym e) ∙ k .inv .3 ∙ ap (map (λ (f : Factor). getD (o .known) (f .row) nilKnown)) whole ∙ gathered (o .inv .4 .ks) (o .known) (defOf (t .result)) (o .inv .4 .known-is) (names-c c)
-
-early-none : (c : tie.Else2 Inv-loop2 μ-loop2 Inv-loop μ-loop)
-    → early (slots (rowsOf (c .before .before .before .before .before .before .before .before .before .before .before .args .t1))) (c .before .before .before .before .before .before .before .loop .inv .4 .ks) (c .before .before .before .before .taken .result) ≡ false
-early-none c = sym (early-c (c .before)) ∙ c .if2 .left
-
-def-fault-requires : tie.Need-def-fault-requires Inv-loop2 μ-loop2 Inv-loop μ-loop
-def-fault-requires c κs = c .before .loop2 .inv .1
-
-refused-requires-4 : tie.Need-refused-requires-4 Inv-loop2 μ-loop2 Inv-loop μ-loop
-refused-requires-4 c κs = search needs
-
-returns-4 : tie.Need-returns-4 Inv-loop2 μ-loop2 Inv-loop μ-loop
-returns-4 c =
-    let e : tie.After-loop2 Inv-loop2 μ-loop2 Inv-loop μ-loop = c .before .before .before in
-    let s : tie.Start Inv-loop2 μ-loop2 Inv-loop μ-loop = e .before .before .before .before .before .before .before .before .before .before .before .before .before in
-    let o = e .before .before .before .before .before .before .before .before .before .loop in
-    let t = e .before .before .before .before .before .before .taken in
-    c .refused4 .ensures
-    ∙ stop (s .args .t1) (o .known) (o .ranks) (o .bases) (o .i) (full s) (small (e .before .before .before)) (o .inv .4) (inside (e .before .before .before)) (t .result) (t .ensures) 2
-    (record { why = SHAPE; is = shape-fault _ _ (t .result) (early-none (e .before .before)) (names-c e) (sym (c .before .before .def-fault .ensures) ∙ c .before .if4 .taken); numbered = refl })
-
-work-out-requires : tie.Need-work-out-requires Inv-loop2 μ-loop2 Inv-loop μ-loop
-work-out-requires c κs =
-    let s : tie.Start Inv-loop2 μ-loop2 Inv-loop μ-loop = c .before .before .before .before .before .before .before .before .before .before .before .before .before .before .before in
-    let z = c .before .before .before .before .before .before .before .before .before .before .before .before .before .slots-of in
-    (c .before .before .before .loop2 .inv .1, omega (arith, len-slots (z .result) _ (z .ensures), slots-few (rowsOf (s .args .t1))), sym (c .before .def-fault .ensures) ∙ c .if4 .left)
-
--- the row is worked out as it is defined
-worked-c : (c : tie.After-work-out Inv-loop2 μ-loop2 Inv-loop μ-loop)
-    → c .work-out .result ≡ workedOf (workedOut (slots (rowsOf (c .before .before .before .before .before .before .before .before .before .before .before .before .before .before .before .before .args .t1))) (c .before .before .before .before .before .before .before .before .before .before .before .before .loop .inv .4 .ks) (c .before .before .before .before .before .before .before .before .before .taken .result))
-worked-c c =
-    let e : tie.After-loop2 Inv-loop2 μ-loop2 Inv-loop μ-loop = c .before .before .before in
-    let o = e .before .before .before .before .before .before .before .before .before .loop in
-    let z = e .before .before .before .before .before .before .before .before .before .before .before .slots-of in
-    c .work-out .ensures _ (o .inv .4 .ks) (z .ensures) (sym (o .inv .4 .sized)) (gathered-c e)
-
-refused-requires-5 : tie.Need-refused-requires-5 Inv-loop2 μ-loop2 Inv-loop μ-loop
-refused-requires-5 c κs = search needs
-
-returns-5 : tie.Need-returns-5 Inv-loop2 μ-loop2 Inv-loop μ-loop
-returns-5 c =
-    let q : tie.After-work-out Inv-loop2 μ-loop2 Inv-loop μ-loop = c .before .before in
-    let e : tie.After-loop2 Inv-loop2 μ-loop2 Inv-loop μ-loop = q .before .before .before in
-    let s : tie.Start Inv-loop2 μ-loop2 Inv-loop μ-loop = e .before .before .before .before .before .before .before .before .before .before .before .before .before in
-    let o = e .before .before .before .before .before .before .before .before .before .loop in
-    let t = e .before .before .before .before .before .before .taken in
-    let clean = sound-row _ _ (t .result) (early-none (e .before .before)) (names-c e) (sym (q .before .before .def-fault .ensures) ∙ q .before .if4 .left) in
-    c .refused5 .ensures
-    ∙ stop (s .args .t1) (o .known) (o .ranks) (o .bases) (o .i) (full s) (small (e .before .before .before)) (o .inv .4) (inside (e .before .before .before)) (t .result) (t .ensures) _
-    (refuses-of (s .args .t1) (o .known) (o .ranks) (o .bases) (o .i) (full s) (small (e .before .before .before)) (o .inv .4) (inside (e .before .before .before)) (t .result) (t .ensures) (q .work-out .result) clean (worked-c q) (c .before .if5 .taken))
-
-mul-known : tie.Need-mul-known Inv-loop2 μ-loop2 Inv-loop μ-loop
-mul-known c = search needs
-
-array-set-from-known : tie.Need-array-set-from-known Inv-loop2 μ-loop2 Inv-loop μ-loop
-array-set-from-known c = search needs
-
-mul-ranks : tie.Need-mul-ranks Inv-loop2 μ-loop2 Inv-loop μ-loop
-mul-ranks c = search needs
-
-array-write-ranks : tie.Need-array-write-ranks Inv-loop2 μ-loop2 Inv-loop μ-loop
-array-write-ranks c = search needs
-
-counted-requires : tie.Need-counted-requires Inv-loop2 μ-loop2 Inv-loop μ-loop
-counted-requires c κs = search needs
-
-add-i : tie.Need-add-i Inv-loop2 μ-loop2 Inv-loop μ-loop
+add-i : tie.Need-add-i Inv-loop μ-loop
 add-i c = search needs
 
-loop-less : tie.Need-loop-less Inv-loop2 μ-loop2 Inv-loop μ-loop
+loop-less : tie.Need-loop-less Inv-loop μ-loop
 loop-less c = omega arith
 
-loop-again : tie.Need-loop-again Inv-loop2 μ-loop2 Inv-loop μ-loop
+loop-again : tie.Need-loop-again Inv-loop μ-loop
 loop-again c =
-    let q : tie.After-work-out Inv-loop2 μ-loop2 Inv-loop μ-loop = c .before .before .before in
-    let e : tie.After-loop2 Inv-loop2 μ-loop2 Inv-loop μ-loop = q .before .before .before in
-    let s : tie.Start Inv-loop2 μ-loop2 Inv-loop μ-loop = e .before .before .before .before .before .before .before .before .before .before .before .before .before in
-    let o = e .before .before .before .before .before .before .before .before .before .loop in
-    let t = e .before .before .before .before .before .before .taken in
-    let none = early-none (e .before .before) in
-    let clean = sound-row _ _ (t .result) none (names-c e) (sym (q .before .before .def-fault .ensures) ∙ q .before .if4 .left) in
-    let more = more-of (s .args .t1) (o .known) (o .ranks) (o .bases) (o .i) (full s) (small (e .before .before .before)) (o .inv .4) (inside (e .before .before .before)) (t .result) (t .ensures) (q .work-out .result) clean (worked-c q) (o .inv .2) (c .before .before .if5 .left) in (
-      omega (arith, inside (e .before .before .before)),
-      length-set (o .known) (o .i) (q .work-out .result .known) ∙ o .inv .1,
-      length-set (o .ranks) (o .i) (t .result .rank) ∙ o .inv .2,
-      subst (λ (n : ℕ). n ≤ 16) (sym (c .counted .ensures)) (few-more (t .result .kind) (o .bases) (o .inv .3) (λ b. subst (λ (n : ℕ). n ≤ 15) (sym (o .inv .4 .bases-are)) (few (slots (rowsOf (s .args .t1))) (o .inv .4 .ks) (t .result) none b))),
-      subst (λ (n : ℕ). Admitting (s .args .t1) (set (o .known) (o .i) (q .work-out .result .known)) (set (o .ranks) (o .i) (t .result .rank)) n (o .i + 1)) (sym (c .counted .ensures)) more,
-    )
+    let q = row (c .before .before) in
+    let k = turn q in
+    let all = slots (rowsOf (start k .args .t1)) in
+    let a = k .loop .inv .2 in
+    let low : k .loop .i < start k .args .t1 .len = q .before .before .before .before .before .before .before .before .loop-test .taken in
+    let more =
+    admitting-on all (rowsOf (start k .args .t1)) _ _ _ _ _ _ _ a _ (here q) (q .admit-row .result) _ _ _ _ _
+    (q .admit-row .ensures .1 all (a .ks) (k .before .slots-of .ensures) (a .at) (a .bases-are) (a .paged)) (c .before .if2 .left) (c .counted .result) (c .counted .ensures) in
+    (omega arith, q .admit-row .ensures .0, more)
 
-returns-6 : tie.Need-returns-6 Inv-loop2 μ-loop2 Inv-loop μ-loop
-returns-6 c =
-    let s : tie.Start Inv-loop2 μ-loop2 Inv-loop μ-loop = c .before .before .before .before .before in
-    let o = c .before .loop in
-    let z = c .before .before .before .slots-of in
-    ap (λ (x : Slots). record { known = o .known; slots = x; len = s .args .t1 .len; refusal = 0 }) (z .ensures)
-    ∙ admit-end (s .args .t1) (o .known) (o .ranks) (o .bases) (o .i) (full s) (omega arith) (o .inv .4) (omega arith) (omega arith)
+same-length-6 : tie.Need-same-length-6 Inv-loop μ-loop
+same-length-6 c = c .before .loop .inv .1 .0 ∙ sym (start (c .before) .pre .0)
+
+same-length-7 : tie.Need-same-length-7 Inv-loop μ-loop
+same-length-7 c = c .before .loop .inv .1 .1 ∙ sym (start (c .before) .pre .1)
+
+same-length-8 : tie.Need-same-length-8 Inv-loop μ-loop
+same-length-8 c = c .before .loop .inv .1 .2 ∙ sym (start (c .before) .pre .2)
+
+same-length-9 : tie.Need-same-length-9 Inv-loop μ-loop
+same-length-9 c = c .before .loop .inv .1 .3 ∙ sym (start (c .before) .pre .3)
+
+same-length-10 : tie.Need-same-length-10 Inv-loop μ-loop
+same-length-10 c = c .before .loop .inv .1 .4 ∙ sym (start (c .before) .pre .4)
+
+returns-3 : tie.Need-returns-3 Inv-loop μ-loop
+returns-3 c =
+    let k : tie.At-loop Inv-loop μ-loop = c .before in
+    let rs = rowsOf (start k .args .t1) in
+    let n : k .loop .i ≡ start k .args .t1 .len = omega arith in
+    let t =
+    whole k _ _ _ _ _ _
+    (admitting-end (slots rs) rs _ _ _ _ _ _ _ (k .loop .inv .2) (omega (arith, long-rows (start k .args .t1) (full (start k)) (small k))) (k .before .slots-of .result) (k .before .slots-of .ensures)) in
+    (ap (λ (m : ℕ). record { slots = k .before .slots-of .result; len = m; refusal = 0 }) (sym n) ∙ t .0, k .loop .inv .1, t .1)
 
 pub admit-spec : {M : Type 1} → statement M
 admit-spec =
     tie.close
     (tie.spec
-    Inv-loop2
-    μ-loop2
     Inv-loop
     μ-loop
     refused-requires
     returns
     slots-of-requires
-    blank-requires
     loop-holds
     mul-taken
     element-copy-out-taken
     taken-requires
-    slice-aggregate-rank-met
-    rank-met-requires
-    row-fault-requires
+    admit-row-requires
     refused-requires-2
+    same-length
+    same-length-2
+    same-length-3
+    same-length-4
+    same-length-5
     returns-2
-    loop2-holds
-    mul-f
-    element-copy-out-f
-    cast-r
-    refused-requires-3
-    returns-3
-    mul-k
-    array-copy-out-k
-    mul-named
-    array-set-from-named
-    add-j
-    loop2-less
-    loop2-again
-    def-fault-requires
-    refused-requires-4
-    returns-4
-    work-out-requires
-    refused-requires-5
-    returns-5
-    mul-known
-    array-set-from-known
-    mul-ranks
-    array-write-ranks
     counted-requires
     add-i
     loop-less
     loop-again
-    returns-6)
+    same-length-6
+    same-length-7
+    same-length-8
+    same-length-9
+    same-length-10
+    returns-3)

@@ -2,56 +2,66 @@
 use mathlib.Core.Path.{_≡_, refl, sym, _∙_, ap}
 use Prim.Native.Nat.{_≤_, _-_}
 use native.Mathlib.Omega.{arith}
-use lib.ListN.{length, drop, drop-of-length-le}
+use borrow.Author.Needs.{needs}
+use lib.IntN.{pos}
+use lib.ListN.{drop, drop-of-length-le}
 use mir.Syntax.{w64}
 use mir.Val.{ofZ}
-use Rattle.tables.specs.Orders.{more}
+use Rattle.tables.specs.Orders.{more, keyAt}
 use Rattle.tables.proofs.KeyOrder.{bits-zero, more-on, more-here}
+use Rattle.tables.proofs.Paging.{part-long, part-at}
 use Rattle.tables.proofs.order.has_more.Statement.{statement}
 use Rattle.tables.proofs.order.has_more.Tie as tie
 
 abbrev Inv-loop : tie.InvT-loop
-Inv-loop p k i₀ i = (i ≤ 16) × (more (drop p k) ≡ more (drop i k))
+Inv-loop keys a p i₀ i = (i ≤ 16) × (more (drop p (keyAt a keys)) ≡ more (drop i (keyAt a keys)))
 
 abbrev μ-loop : tie.MeasureT-loop
-μ-loop p k i₀ i = 16 - i
+μ-loop keys a p i₀ i = 16 - i
 
 loop-holds : tie.Need-loop-holds Inv-loop μ-loop
 loop-holds c = (omega arith, refl)
 
-mul-v : tie.Need-mul-v Inv-loop μ-loop
-mul-v c = omega arith
+add-if1 : tie.Need-add-if1 Inv-loop μ-loop
+add-if1 c = search needs
 
-array-copy-out-v : tie.Need-array-copy-out-v Inv-loop μ-loop
-array-copy-out-v c = omega arith
+mul-if1 : tie.Need-mul-if1 Inv-loop μ-loop
+mul-if1 c = search needs
+
+shared-slice-copy-out-if1 : tie.Need-shared-slice-copy-out-if1 Inv-loop μ-loop
+shared-slice-copy-out-if1 c = search needs
 
 returns : tie.Need-returns Inv-loop μ-loop
 returns c =
-    let a = c .before .before .before .before .args in
+    let s = c .before .before .before .before in
     let l = c .before .before .before .loop in
-    let z : length (a .t1) ≡ 16 = omega arith in
-    more-here (a .t1) (l .i) (omega arith) (λ e. c .if1 .taken (ap (ofZ w64) e)) ∙ sym (l .inv .1)
+    let k = s .args .keys .now in
+    let z = part-long k (s .args .a) (s .pre .1) in
+    let e = part-at k (s .args .a) (l .i) (pos 0) (omega arith) in
+    more-here (keyAt (s .args .a) k) (l .i) (omega arith) (λ q. c .if1 .taken (ap (ofZ w64) (sym e ∙ q))) ∙ sym (l .inv .1)
 
 add-i : tie.Need-add-i Inv-loop μ-loop
-add-i c = omega arith
+add-i c = search needs
 
 loop-less : tie.Need-loop-less Inv-loop μ-loop
 loop-less c = omega arith
 
 loop-again : tie.Need-loop-again Inv-loop μ-loop
 loop-again c =
-    let a = c .before .before .before .before .args in
+    let s = c .before .before .before .before in
     let l = c .before .before .before .loop in
-    let z : length (a .t1) ≡ 16 = omega arith in
-    (omega arith, l .inv .1 ∙ more-on (a .t1) (l .i) (omega arith) (bits-zero (record { sfits = c .before .v .given }) (c .if1 .left)))
+    let k = s .args .keys .now in
+    let z = part-long k (s .args .a) (s .pre .1) in
+    let e = part-at k (s .args .a) (l .i) (pos 0) (omega arith) in
+    (omega arith, l .inv .1 ∙ more-on (keyAt (s .args .a) k) (l .i) (omega arith) (e ∙ bits-zero (record { sfits = c .before .if12 .given }) (c .if1 .left)))
 
 returns-2 : tie.Need-returns-2 Inv-loop μ-loop
 unfolding more
 returns-2 c =
-    let a = c .before .before .args in
+    let s = c .before .before in
     let l = c .before .loop in
-    let z : length (a .t1) ≡ 16 = omega arith in
-    sym (l .inv .1 ∙ ap more (drop-of-length-le (a .t1) {i = l .i} (omega arith)))
+    let z = part-long (s .args .keys .now) (s .args .a) (s .pre .1) in
+    sym (l .inv .1 ∙ ap more (drop-of-length-le (keyAt (s .args .a) (s .args .keys .now)) {i = l .i} (omega arith)))
 
 pub has-more-spec : {M : Type 1} → statement M
 has-more-spec =
@@ -60,8 +70,9 @@ has-more-spec =
     Inv-loop
     μ-loop
     loop-holds
-    mul-v
-    array-copy-out-v
+    add-if1
+    mul-if1
+    shared-slice-copy-out-if1
     returns
     add-i
     loop-less

@@ -1,35 +1,17 @@
 -- `no_simplify` meets its contract.
 use borrow.Author.Needs.{needs}
-use mathlib.Core.Bool.{false}
-use Rattle.values.specs.Calls.{listed, noSimplify}
-use Rattle.values.proofs.Answered.{made-refused, made-kept}
 use Rattle.values.proofs.single.no_simplify.Statement.{statement}
 use Rattle.values.proofs.single.no_simplify.Tie as tie
 
-listed-requires : tie.Need-listed-requires
-listed-requires c κs = search needs
+admitted-requires : tie.Need-admitted-requires
+admitted-requires c κs = search needs
 
-refused-requires : tie.Need-refused-requires
-refused-requires c κs = search needs
+no-simplify-over-requires : tie.Need-no-simplify-over-requires
+no-simplify-over-requires c κs = search needs
 
 returns : tie.Need-returns
-unfolding noSimplify
 returns c =
-    let s = c .before .before .before .before .before .args in
-    let m = c .before .before .before .listed in
-    made-refused false (s .q .value) (listed (s .rows) (s .q .unit)) (m .result) (c .refused .result) (m .ensures) (c .before .if1 .taken) (c .refused .ensures)
-
-with-mark-requires : tie.Need-with-mark-requires
-with-mark-requires c κs = search needs
-
-returns-2 : tie.Need-returns-2
-unfolding noSimplify
-returns-2 c =
-    let d = c .before .before in
-    let s = d .before .before .before .before .args in
-    let m = d .before .before .listed in
-    made-kept false (s .q .value) (listed (s .rows) (s .q .unit)) (m .result) (c .with-mark .result) (m .ensures) (d .if1 .left) (c .with-mark .ensures)
+    c .no-simplify-over .ensures (c .before .before .args .rows) (c .before .admitted .ensures)
 
 pub no-simplify-spec : {M : Type 1} → statement M
-no-simplify-spec =
-    tie.close (tie.spec listed-requires refused-requires returns with-mark-requires returns-2)
+no-simplify-spec = tie.close (tie.spec admitted-requires no-simplify-over-requires returns)

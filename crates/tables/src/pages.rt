@@ -1,0 +1,74 @@
+// What is known of all rows, as plain numbers in five arrays that are lent from function to function: row r's base exponents stand
+// at 16 r and the places behind it, in the order of the slots; its scale, its rank and whether it is base at r.
+ghost use mathlib.Core.Path.{_≡_};
+ghost use mathlib.Core.List.{List};
+ghost use Prim.Native.Nat.{_+_, _*_, _<_, _≤_};
+ghost use lib.ListN.{length, getD, take, drop};
+ghost use lib.IntN.{pos};
+ghost use lib.Seq.{sets};
+ghost use Rattle.tables.specs.Rows.{Facts, nobody, knownOf};
+ghost use Rattle.tables.specs.Pages.{tops, bottoms, Paged, Room};
+use super::Known;
+use exponents::Exponent;
+
+// The exponent at place i.
+pub fn exponent_at(nums: &[i32], dens: &[u32], i: usize) -> Exponent
+    requires { ⌜ (i < length (now nums)) × (i < length (now dens)) ⌝ }
+    ensures { λ r. ⌜ (r .num ≡ getD (now (nums .entry)) i (pos 0)) × (r .den ≡ getD (now (dens .entry)) i 1) ⌝ }
+{
+    Exponent {
+        num: nums[i],
+        den: dens[i],
+    }
+}
+
+// Sixteen exponents from place `at` on.
+pub fn exps_at(nums: &[i32], dens: &[u32], at: usize) -> [Exponent; 16]
+    requires { ⌜ (at + 16 ≤ length (now nums)) × (at + 16 ≤ length (now dens)) ⌝ }
+    ensures { λ r. ⌜ (tops r ≡ take 16 (drop at (now (nums .entry)))) × (bottoms r ≡ take 16 (drop at (now (dens .entry)))) ⌝ }
+{
+    let none = Exponent { num: 0, den: 1 };
+    let mut e = [none; 16];
+    let mut s: usize = 0;
+    while s < 16 {
+        e[s] = exponent_at(nums, dens, at + s);
+        s += 1;
+    }
+    e
+}
+
+// What is known of row r.
+pub fn known_at(
+    nums: &[i32],
+    dens: &[u32],
+    scales: &[f64],
+    ranks: &[u16],
+    based: &[bool],
+    r: usize,
+) -> Known
+    requires { ⌜ (r < 128) × Room (now nums) (now dens) (now scales) (now ranks) (now based) ⌝ }
+    ensures { λ k. ⌜ ((ks : List Facts) → Paged ks (now (nums .entry)) (now (dens .entry)) (now (scales .entry)) (now (ranks .entry)) (now (based .entry)) → r < length ks → k ≡ knownOf (getD ks r nobody)) ⌝ }
+{
+    let e = exps_at(nums, dens, r * 16);
+    Known {
+        exps: e,
+        scale: scales[r],
+        rank: ranks[r],
+        base: based[r],
+    }
+}
+
+// Sixteen exponents put at place `at` and behind it.
+pub fn put_exps(nums: &mut [i32], dens: &mut [u32], at: usize, e: [Exponent; 16])
+    requires { ⌜ (at + 16 ≤ length (now nums)) × (at + 16 ≤ length (now dens)) ⌝ }
+    ensures { λ _. ⌜ (now (nums .exit) ≡ sets (now (nums .entry)) at (tops e)) × (now (dens .exit) ≡ sets (now (dens .entry)) at (bottoms e)) ⌝ }
+{
+    let mut s: usize = 0;
+    while s < 16 {
+        let x = e[s];
+        let n = x.num;
+        nums[at + s] = n;
+        dens[at + s] = x.den;
+        s += 1;
+    }
+}
