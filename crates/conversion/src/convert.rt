@@ -9,7 +9,7 @@ ghost use Rattle.units.specs.declared.Factor.{Factor as Factorᵛ};
 ghost use Rattle.units.specs.Lists.{some, factorFault};
 ghost use Rattle.tables.specs.Scale.{binary64, sizeBy, scale};
 ghost use Rattle.tables.specs.Rows.{scaledOf};
-ghost use Rattle.tables.specs.Items.{View, viewBases, packItems};
+ghost use Rattle.tables.specs.Items.{View, Lent, viewBases, packItems};
 ghost use Rattle.canonical.specs.Order.{byPlace};
 ghost use Rattle.conversion.specs.Conversion as spec;
 ghost use Rattle.conversion.specs.Conversion.{rescaled as rescaledBy, against as settled, convertedOf, refusedBy};
@@ -51,14 +51,14 @@ fn rescaled(x: f64, a: Scaled, t: Items) -> Converted
 }
 
 // Between lists that have no factors in common: m is the target's canonical form.
-fn apart(x: f64, l: Items, m: Items, n: usize) -> Converted
-    ensures { λ r. ⌜ ((v : View) (fs gs : List Factorᵛ) → l ≡ packItems v fs → m ≡ packItems v gs → length fs ≤ 16 → length gs ≤ 16 → n ≤ 16 → some factorFault fs ≡ false → some factorFault gs ≡ false → r ≡ convertedOf (settled (viewBases v n) binary64 (sizeBy (v .scale)) fs (given gs) x)) ⌝ }
+fn apart(x: f64, l: Items, m: Items, n: usize, nums: &[i32], dens: &[u32]) -> Converted
+    ensures { λ r. ⌜ ((v : View) → Lent v (now (nums .entry)) (now (dens .entry)) → (fs gs : List Factorᵛ) → l ≡ packItems v fs → m ≡ packItems v gs → length fs ≤ 16 → length gs ≤ 16 → n ≤ 16 → some factorFault fs ≡ false → some factorFault gs ≡ false → r ≡ convertedOf (settled (viewBases v n) binary64 (sizeBy (v .scale)) fs (given gs) x)) ⌝ }
 {
-    let a = reduction::bases::base_of(l, n);
+    let a = reduction::bases::base_of(l, n, nums, dens);
     if a.refusal != 0 {
         return Converted::Refused(a.refusal);
     }
-    let b = reduction::bases::base_of(m, n);
+    let b = reduction::bases::base_of(m, n, nums, dens);
     if b.refusal != 0 {
         return Converted::Refused(b.refusal);
     }
@@ -72,10 +72,10 @@ fn apart(x: f64, l: Items, m: Items, n: usize) -> Converted
 }
 
 // Between lists that differ: c has their common factors, inverted, and m is the target's canonical form. The own list over c is not merged.
-fn unlike(x: f64, l: Items, m: Items, c: Items, n: usize) -> Converted
-    ensures { λ r. ⌜ ((v : View) (fs gs cs : List Factorᵛ) → l ≡ packItems v fs → m ≡ packItems v gs → c ≡ packItems v cs → length fs ≤ 16 → length gs ≤ 16 → length cs ≤ 16 → n ≤ 16 → some factorFault fs ≡ false → some factorFault gs ≡ false → some factorFault cs ≡ false → r ≡ convertedOf (settled (viewBases v n) binary64 (sizeBy (v .scale)) (fs ++ cs) (lessen (byPlace v) gs cs) x)) ⌝ }
+fn unlike(x: f64, l: Items, m: Items, c: Items, n: usize, nums: &[i32], dens: &[u32]) -> Converted
+    ensures { λ r. ⌜ ((v : View) → Lent v (now (nums .entry)) (now (dens .entry)) → (fs gs cs : List Factorᵛ) → l ≡ packItems v fs → m ≡ packItems v gs → c ≡ packItems v cs → length fs ≤ 16 → length gs ≤ 16 → length cs ≤ 16 → n ≤ 16 → some factorFault fs ≡ false → some factorFault gs ≡ false → some factorFault cs ≡ false → r ≡ convertedOf (settled (viewBases v n) binary64 (sizeBy (v .scale)) (fs ++ cs) (lessen (byPlace v) gs cs) x)) ⌝ }
 {
-    let a = reduction::bases::base_exponents(l, c, n);
+    let a = reduction::bases::base_exponents(l, c, n, nums, dens);
     if a.refusal != 0 {
         return Converted::Refused(a.refusal);
     }
@@ -84,7 +84,7 @@ fn unlike(x: f64, l: Items, m: Items, c: Items, n: usize) -> Converted
         return Converted::Refused(t.refusal);
     }
     let u = t.list;
-    let b = reduction::bases::base_of(u, n);
+    let b = reduction::bases::base_of(u, n, nums, dens);
     if b.refusal != 0 {
         return Converted::Refused(b.refusal);
     }
@@ -98,8 +98,8 @@ fn unlike(x: f64, l: Items, m: Items, c: Items, n: usize) -> Converted
 }
 
 // x of the list l in the list m, where there are n base rows.
-pub fn convert(x: f64, l: Items, m: Items, n: usize) -> Converted
-    ensures { λ r. ⌜ ((v : View) (fs gs : List Factorᵛ) → l ≡ packItems v fs → m ≡ packItems v gs → length fs ≤ 16 → length gs ≤ 16 → n ≤ 16 → some factorFault fs ≡ false → some factorFault gs ≡ false → r ≡ convertedOf (spec.convert (byPlace v) (viewBases v n) binary64 (sizeBy (v .scale)) fs gs x)) ⌝ }
+pub fn convert(x: f64, l: Items, m: Items, n: usize, nums: &[i32], dens: &[u32]) -> Converted
+    ensures { λ r. ⌜ ((v : View) → Lent v (now (nums .entry)) (now (dens .entry)) → (fs gs : List Factorᵛ) → l ≡ packItems v fs → m ≡ packItems v gs → length fs ≤ 16 → length gs ≤ 16 → n ≤ 16 → some factorFault fs ≡ false → some factorFault gs ≡ false → r ≡ convertedOf (spec.convert (byPlace v) (viewBases v n) binary64 (sizeBy (v .scale)) fs gs x)) ⌝ }
 {
     let a = canonical::form::canonical(l);
     if a.refusal != 0 {
@@ -116,7 +116,7 @@ pub fn convert(x: f64, l: Items, m: Items, n: usize) -> Converted
     }
     let c = common::over_common(p, q);
     if c.len == 0 {
-        return apart(x, l, q, n);
+        return apart(x, l, q, n, nums, dens);
     }
-    unlike(x, l, q, c, n)
+    unlike(x, l, q, c, n, nums, dens)
 }

@@ -6,8 +6,8 @@ ghost use Prim.Native.Nat.{_*_, _≤_};
 ghost use lib.ListN.{length};
 ghost use Rattle.tables.specs.Rows as rows;
 ghost use Rattle.tables.specs.Rows.{rowsOf, packSlots};
-ghost use Rattle.tables.specs.Pages.{Room, Pages, admittedOf};
-ghost use Rattle.lists.specs.Opening.{baseRows, openedOf, opening};
+ghost use Rattle.tables.specs.Pages.{Room, Blank, Pages, admittedOf};
+ghost use Rattle.lists.specs.Opening.{Tells, baseRows, openedOf, opening};
 ghost use Rattle.wire.specs.Bytes.{runAt};
 ghost use Rattle.wire.specs.Records.{rowAt};
 ghost use Rattle.wire.specs.Arguments.{tableFrom};
@@ -55,7 +55,7 @@ pub fn admit_bytes(
     ranks: &mut [u16],
     based: &mut [bool],
 ) -> Admitted
-    requires { ⌜ Room (now nums) (now dens) (now scales) (now ranks) (now based) ⌝ }
+    requires { ⌜ Room (now nums) (now dens) (now scales) (now ranks) (now based) × Blank 0 (now nums) (now dens) ⌝ }
     ensures { λ r. ⌜ (r ≡ admittedOf (rows.slots (rowsOf (tableFrom (now (s .entry))))) (rows.admit (tableFrom (now (s .entry))))) × Room (now (nums .exit)) (now (dens .exit)) (now (scales .exit)) (now (ranks .exit)) (now (based .exit)) × Pages (rows.admit (tableFrom (now (s .entry)))) (now (nums .exit)) (now (dens .exit)) (now (scales .exit)) (now (ranks .exit)) (now (based .exit)) ⌝ }
 {
     let n = many(s.len(), 176, 128);
@@ -93,15 +93,14 @@ pub fn admitted(s: &[u8]) -> Admitted
     admit_bytes(s, &mut nums, &mut dens, &mut scales, &mut ranks, &mut based)
 }
 
-// A table and two lists, checked in 01's order.
-pub fn open_lists(s: &[u8], a: Factors, b: Factors) -> Opened
-    ensures { λ r. ⌜ r ≡ openedOf (baseRows (tableFrom (now (s .entry)))) (opening (tableFrom (now (s .entry))) a b) ⌝ }
+// A table and two lists, checked in 01's order; the base exponents of the table's rows are left in two arrays, which have to be new.
+pub fn open_lists(s: &[u8], a: Factors, b: Factors, nums: &mut [i32], dens: &mut [u32]) -> Opened
+    requires { ⌜ (length (now nums) ≡ 2048) × (length (now dens) ≡ 2048) × Blank 0 (now nums) (now dens) ⌝ }
+    ensures { λ r. ⌜ (r ≡ openedOf (baseRows (tableFrom (now (s .entry)))) (opening (tableFrom (now (s .entry))) a b)) × Tells (tableFrom (now (s .entry))) (now (nums .exit)) (now (dens .exit)) ⌝ }
 {
-    let mut nums = [0i32; 2048];
-    let mut dens = [1u32; 2048];
     let mut scales = [1.0; 128];
     let mut ranks = [0u16; 128];
     let mut based = [false; 128];
-    let t = admit_bytes(s, &mut nums, &mut dens, &mut scales, &mut ranks, &mut based);
-    lists::opening::open_over(t, &nums, &dens, &scales, &ranks, &based, a, b)
+    let t = admit_bytes(s, nums, dens, &mut scales, &mut ranks, &mut based);
+    lists::opening::open_over(t, nums, dens, &scales, &ranks, &based, a, b)
 }

@@ -1,9 +1,11 @@
 -- How each call hands a refusal over, and what it knows of the base rows.
-use mathlib.Core.Path.{_≡_, refl, sym, ap, _∙_}
+use mathlib.Core.Path.{_≡_, refl, sym, ap, _∙_, subst}
 use mathlib.Core.Bool.{Bool, true, false}
-use mathlib.Core.List.{List}
+use mathlib.Core.List.{List, _++_}
 use Prim.Native.Nat.{ℕ}
 use native.Mathlib.Omega.{arith}
+use lib.IntN.{ℤ}
+use lib.Ieee.{Float}
 use lib.ListN.{length}
 use Rattle.exponents.specs.Outcome.{Refusal, Outcome, given, refused, number, map, bind}
 use Rattle.exponents.proofs.Holds.{bind-refused}
@@ -14,14 +16,17 @@ use Rattle.units.specs.declared.Rows.{Rows}
 use Rattle.units.specs.Lists.{pack, refusedBy, madeOf}
 use Rattle.tables.specs.declared.Slot.{Slot}
 use Rattle.tables.specs.declared.Slots.{Slots}
-use Rattle.tables.specs.Rows.{pick, Facts, rowsOf, packSlots}
-use Rattle.tables.specs.Items.{viewOf, viewBases}
+use Rattle.tables.specs.Rows.{pick, Facts, Admission, admitted, stopped, admit, rowsOf, packSlots}
+use Rattle.tables.specs.Pages.{Pages}
+use Rattle.tables.specs.Items.{Lent, viewOf, viewBases}
 use Rattle.tables.proofs.Slotting.{slots-few}
+use Rattle.tables.proofs.Telling.{lent-view}
 use Rattle.resolution.proofs.Viewed.{view-bases}
 use Rattle.reduction.specs.Reduction.{smallerOf}
 use Rattle.reduction.specs.declared.reduce.Smaller.the-variants as smaller
-use Rattle.lists.specs.Opening.{baseRows}
+use Rattle.lists.specs.Opening.{known, Opening, opening, Tells, baseRows}
 use Rattle.lists.specs.Calls.{basesIn}
+use Rattle.lists.proofs.Checks.{made-of}
 
 -- a refusal handed over: `hand` is how a call hands its outcome over, `empty` what that is for a refusal's number
 pub handed : {A B : Type 0} (empty : ℕ → B) (hand : Outcome A → B) → ((r : Refusal) → empty (number r) ≡ hand (refused r)) → (o : Outcome A) (n : ℕ) → Refuses o n → empty n ≡ hand o
@@ -62,6 +67,22 @@ module _ (o : Outcome Bool) (fs gs : List Factor) where
       go (given true) e = absurd (let z : _≡_ {A = ℕ} 0 1 = cc in omega arith)
       go (given false) e = absurd (let z : _≡_ {A = ℕ} 0 1 = cc in omega arith)
       go (refused r) e = let z : number r ≡ n = cc in ap refusedBy (sym z)
+
+-- ---- what the arrays tell
+
+tells-by : (a : Admission) (nums : List ℤ) (dens : List ℕ) (scales : List Float) (ranks : List ℕ) (based : List Bool) → Pages a nums dens scales ranks based → (ks : List Facts) → known a ≡ given ks → (l : List Factor) → Lent (viewOf ks l) nums dens
+tells-by (admitted js) nums dens scales ranks based p ks e l =
+    let same : js ≡ ks = cc in
+    subst (λ ks. Lent (viewOf ks l) nums dens) same (lent-view js l nums dens scales ranks based p)
+tells-by (stopped r js) nums dens scales ranks based p ks e l = absurd (let z : _≡_ {A = ℕ} 0 1 = cc in omega arith)
+
+-- the arrays of an admission
+pub tells-of : (t : Rows) (nums : List ℤ) (dens : List ℕ) (scales : List Float) (ranks : List ℕ) (based : List Bool) → Pages (admit t) nums dens scales ranks based → Tells t nums dens
+tells-of t nums dens scales ranks based p = tells-by (admit t) nums dens scales ranks based p
+
+-- what they tell of the rows as a call sees them
+pub lent-of : (a b : Factors) (t : Rows) (o : Opening) → opening t a b ≡ given o → (nums : List ℤ) (dens : List ℕ) → Tells t nums dens → Lent (viewOf (o .rows) (o .first ++ o .second)) nums dens
+lent-of a b t o e nums dens tells = tells (o .rows) (made-of a b t o e .rows) (o .first ++ o .second)
 
 -- ---- the base rows
 

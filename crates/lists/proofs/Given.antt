@@ -1,15 +1,15 @@
 -- A resolved list's factors, taken out one by one: they are the list that was given.
-use mathlib.Core.Path.{_≡_, refl, sym, ap, _∙_}
+use mathlib.Core.Path.{_≡_, refl, sym, ap, ap₂, _∙_}
 use mathlib.Core.List.{List, [], _∷_, _++_, map, map-append}
 use Prim.Native.Nat.{ℕ, _+_, _<_}
 use native.Mathlib.Numerals.{add-one}
 use native.Mathlib.Omega.{arith}
-use lib.ListN.{length, take, getD, length-take, length-map}
-use lib.Seq.{take-suc}
+use lib.ListN.{length, take, set, getD, length-map}
+use lib.Seq.{take-suc, length-take-le}
 use Rattle.units.specs.declared.Factor.{Factor}
 use Rattle.units.specs.declared.Factors.{Factors}
 use Rattle.units.specs.Lists.{pack}
-use Rattle.units.proofs.Laws.{len-pack}
+use Rattle.units.proofs.Laws.{push-pack}
 use Rattle.tables.specs.declared.Item.{Item}
 use Rattle.tables.specs.declared.Items.{Items}
 use Rattle.tables.specs.Items.{View, itemOf, packItems}
@@ -19,11 +19,12 @@ abbrev pub factorOf : Item → Factor
 factorOf x = x .factor
 
 module _ (is : List Item) (i : ℕ) where
-  pub room : (o : Factors) → i < 16 → o ≡ pack (map factorOf (take i is)) → o .len < 16
-  room o h e = omega (arith, ap (λ (p : Factors). p .len) e, len-pack (map factorOf (take i is)), length-map (take i is) factorOf, length-take i is)
-
-  pub pushed : (d : Item) (o r : Factors) → i < length is → o ≡ pack (map factorOf (take i is)) → ((fs : List Factor) → o ≡ pack fs → r ≡ pack (fs ++ (factorOf (getD is i d) ∷ []))) → r ≡ pack (map factorOf (take (i + 1) is))
-  pushed d o r h e p = p _ e ∙ ap pack (sym (rw (add-one i) (ap (map factorOf) (take-suc is i d h) ∙ map-append factorOf (take i is) (getD is i d ∷ []))))
+  pub pushed : (d : Item) (o : Factors) → i < length is → i < 16 → o ≡ pack (map factorOf (take i is)) → _≡_ {A = Factors} (record { at = set (o .at) i (factorOf (getD is i d)); len = i + 1 }) (pack (map factorOf (take (i + 1) is)))
+  pushed d o h k e =
+      let long : length (map factorOf (take i is)) ≡ i = length-map (take i is) factorOf ∙ length-take-le i is (omega arith) in
+      ap₂ (λ (o : Factors) (n : ℕ). record { at = set (o .at) n (factorOf (getD is i d)); len = n + 1 }) e (sym long)
+      ∙ push-pack (map factorOf (take i is)) (factorOf (getD is i d)) (omega arith)
+      ∙ ap pack (sym (rw (add-one i) (ap (map factorOf) (take-suc is i d h) ∙ map-append factorOf (take i is) (getD is i d ∷ []))))
 
 map-self : (v : View) (fs : List Factor) → map factorOf (map (itemOf v) fs) ≡ fs
 map-self v [] = refl

@@ -1,6 +1,8 @@
 -- A table and two lists, checked (01, "The refusals"): the table's refusal, then the lists' in argument order.
+use mathlib.Core.Path.{_≡_}
 use mathlib.Core.List.{List, [], _++_}
 use Prim.Native.Nat.{ℕ}
+use lib.IntN.{ℤ}
 use lib.ListN.{length}
 use Rattle.exponents.specs.Outcome.{Outcome, given, refused, number, map, bind}
 use Rattle.units.specs.declared.Factor.{Factor}
@@ -9,7 +11,7 @@ use Rattle.units.specs.declared.Rows.{Rows}
 use Rattle.units.specs.Lists.{both}
 use Rattle.tables.specs.declared.Slot.{Slot}
 use Rattle.tables.specs.Rows.{Facts, Admission, admitted, stopped, admit, slots, rowsOf, packSlots}
-use Rattle.tables.specs.Items.{viewOf, packItems}
+use Rattle.tables.specs.Items.{Lent, viewOf, packItems}
 use Rattle.resolution.specs.Resolve.{noItems}
 use Rattle.lists.specs.declared.opening.Opened.{Opened}
 
@@ -20,6 +22,10 @@ known (stopped r ks) = refused r
 
 abbrev pub table : Rows → Outcome (List Facts)
 table t = known (admit t)
+
+-- two arrays tell the base exponents of a table's rows, where it is admitted
+abbrev pub Tells : Rows → List ℤ → List ℕ → Type 0
+Tells t nums dens = (ks : List Facts) → table t ≡ given ks → (l : List Factor) → Lent (viewOf ks l) nums dens
 
 -- the base rows of a table, in rank order
 abbrev pub baseRows : Rows → List Slot

@@ -36,8 +36,10 @@ pub fn canonical_over(o: Opened) -> Made
 pub fn canonical(rows: Rows, l: Factors) -> Made
     ensures { λ r. ⌜ r ≡ madeOf (spec.canonical rows l) ⌝ }
 {
+    let mut nums = [0i32; 2048];
+    let mut dens = [1u32; 2048];
     let none = units::lists::empty();
-    let o = super::opening::open_lists(rows, l, none);
+    let o = super::opening::open_lists(rows, l, none, &mut nums, &mut dens);
     canonical_over(o)
 }
 
@@ -55,6 +57,8 @@ pub fn same_list_over(o: Opened) -> Verdict
 pub fn same_list(rows: Rows, a: Factors, b: Factors) -> Verdict
     ensures { λ r. ⌜ r ≡ verdictOf (sameLists rows a b) ⌝ }
 {
-    let o = super::opening::open_lists(rows, a, b);
+    let mut nums = [0i32; 2048];
+    let mut dens = [1u32; 2048];
+    let o = super::opening::open_lists(rows, a, b, &mut nums, &mut dens);
     same_list_over(o)
 }

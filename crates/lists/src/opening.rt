@@ -7,10 +7,11 @@ ghost use Rattle.units.specs.declared.Factor.{Factor as Factorᵛ};
 ghost use Rattle.units.specs.Lists.{pack};
 ghost use Rattle.units.specs.declared.Rows.{Rows as Rowsᵛ};
 ghost use Rattle.tables.specs.Rows.{admit};
-ghost use Rattle.tables.specs.Pages.{Room, Pages, admittedOf};
+ghost use Rattle.tables.specs.Pages.{Room, Blank, Pages, admittedOf};
 ghost use Rattle.tables.specs.Items.{View, packItems};
+ghost use Rattle.resolution.specs.Resolve.{noItems};
 ghost use Rattle.lists.specs.Opening as spec;
-ghost use Rattle.lists.specs.Opening.{baseRows, openedOf, unopened};
+ghost use Rattle.lists.specs.Opening.{Tells, baseRows, openedOf, unopened};
 use tables::Admitted;
 use tables::Items;
 use tables::Slots;
@@ -25,10 +26,9 @@ pub struct Opened {
     pub refusal: u32,
 }
 
-fn unopened(refusal: u32) -> Opened
-    ensures { λ r. ⌜ r ≡ spec.unopened refusal ⌝ }
+fn unopened(refusal: u32, none: Items) -> Opened
+    ensures { λ r. ⌜ (none ≡ noItems → r ≡ spec.unopened refusal) ⌝ }
 {
-    let none = tables::no_items();
     let slots = tables::ranked::no_slots();
     Opened {
         a: none,
@@ -52,12 +52,13 @@ pub fn open_over(
     requires { ⌜ Room (now nums) (now dens) (now scales) (now ranks) (now based) ⌝ }
     ensures { λ r. ⌜ ((rows : Rowsᵛ) → t ≡ admittedOf (baseRows rows) (admit rows) → Pages (admit rows) (now (nums .entry)) (now (dens .entry)) (now (scales .entry)) (now (ranks .entry)) (now (based .entry)) → r ≡ openedOf (baseRows rows) (spec.opening rows a b)) ⌝ }
 {
+    let none = tables::no_items();
     if t.refusal != 0 {
-        return unopened(t.refusal);
+        return unopened(t.refusal, none);
     }
-    let l = resolution::resolve(t.len, nums, dens, scales, ranks, based, a, b);
+    let l = resolution::resolve(t.len, nums, dens, scales, ranks, based, a, b, none);
     if l.refusal != 0 {
-        return unopened(l.refusal);
+        return unopened(l.refusal, none);
     }
     let x = l.a;
     let y = l.b;
@@ -89,23 +90,16 @@ pub fn admitted(rows: Rows) -> Admitted
     )
 }
 
-pub fn open_lists(rows: Rows, a: Factors, b: Factors) -> Opened
-    ensures { λ r. ⌜ r ≡ openedOf (baseRows rows) (spec.opening rows a b) ⌝ }
+// A table and two lists, opened; the base exponents of the table's rows are left in two arrays, which have to be new.
+pub fn open_lists(rows: Rows, a: Factors, b: Factors, nums: &mut [i32], dens: &mut [u32]) -> Opened
+    requires { ⌜ (length (now nums) ≡ 2048) × (length (now dens) ≡ 2048) × Blank 0 (now nums) (now dens) ⌝ }
+    ensures { λ r. ⌜ (r ≡ openedOf (baseRows rows) (spec.opening rows a b)) × Tells rows (now (nums .exit)) (now (dens .exit)) ⌝ }
 {
-    let mut nums = [0i32; 2048];
-    let mut dens = [1u32; 2048];
     let mut scales = [1.0; 128];
     let mut ranks = [0u16; 128];
     let mut based = [false; 128];
-    let t = tables::admission::admit(
-        rows,
-        &mut nums,
-        &mut dens,
-        &mut scales,
-        &mut ranks,
-        &mut based,
-    );
-    open_over(t, &nums, &dens, &scales, &ranks, &based, a, b)
+    let t = tables::admission::admit(rows, nums, dens, &mut scales, &mut ranks, &mut based);
+    open_over(t, nums, dens, &scales, &ranks, &based, a, b)
 }
 
 // The factors of a resolved list.
@@ -118,7 +112,8 @@ pub fn factors_of(l: Items) -> Factors
     while i < n {
         let x = l.at[i];
         let f = x.factor;
-        o = units::lists::push(o, f);
+        o.at[i] = f;
+        o.len = i + 1;
         i += 1;
     }
     o

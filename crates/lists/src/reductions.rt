@@ -6,7 +6,7 @@ ghost use Rattle.units.specs.declared.Rows.{Rows as Rowsᵛ};
 ghost use Rattle.units.specs.Lists.{pack, madeOf};
 ghost use Rattle.reduction.specs.Multiple.{multipleIs};
 ghost use Rattle.reduction.specs.Reduction.{reducedOf};
-ghost use Rattle.lists.specs.Opening.{baseRows, opening, openedOf};
+ghost use Rattle.lists.specs.Opening.{Tells, baseRows, opening, openedOf};
 ghost use Rattle.lists.specs.Calls as spec;
 use super::opening::Opened;
 use reduction::multiples::Multiple;
@@ -16,28 +16,30 @@ use units::Factors;
 use units::Rows;
 use units::lists::Made;
 
-pub fn reduce_list_over(o: Opened) -> Reduced
-    ensures { λ r. ⌜ ((rows : Rowsᵛ) (l : Factorsᵛ) → o ≡ openedOf (baseRows rows) (opening rows l (pack [])) → r ≡ reducedOf (spec.reduction rows l)) ⌝ }
+pub fn reduce_list_over(o: Opened, nums: &[i32], dens: &[u32]) -> Reduced
+    ensures { λ r. ⌜ ((rows : Rowsᵛ) (l : Factorsᵛ) → o ≡ openedOf (baseRows rows) (opening rows l (pack [])) → Tells rows (now (nums .entry)) (now (dens .entry)) → r ≡ reducedOf (spec.reduction rows l)) ⌝ }
 {
     if o.refusal != 0 {
         return reduction::reduce::not_reduced(o.refusal);
     }
     let x = o.a;
     let s = o.slots;
-    reduction::reduce::reduce_list(x, s)
+    reduction::reduce::reduce_list(x, s, nums, dens)
 }
 
 pub fn reduce_list(rows: Rows, l: Factors) -> Reduced
     ensures { λ r. ⌜ r ≡ reducedOf (spec.reduction rows l) ⌝ }
 {
+    let mut nums = [0i32; 2048];
+    let mut dens = [1u32; 2048];
     let none = units::lists::empty();
-    let o = super::opening::open_lists(rows, l, none);
-    reduce_list_over(o)
+    let o = super::opening::open_lists(rows, l, none, &mut nums, &mut dens);
+    reduce_list_over(o, &nums, &dens)
 }
 
 // The list itself, as it was given.
-pub fn smaller_unit_over(o: Opened) -> Made
-    ensures { λ r. ⌜ ((rows : Rowsᵛ) (a b : Factorsᵛ) → o ≡ openedOf (baseRows rows) (opening rows a b) → r ≡ madeOf (spec.smallerUnit rows a b)) ⌝ }
+pub fn smaller_unit_over(o: Opened, nums: &[i32], dens: &[u32]) -> Made
+    ensures { λ r. ⌜ ((rows : Rowsᵛ) (a b : Factorsᵛ) → o ≡ openedOf (baseRows rows) (opening rows a b) → Tells rows (now (nums .entry)) (now (dens .entry)) → r ≡ madeOf (spec.smallerUnit rows a b)) ⌝ }
 {
     if o.refusal != 0 {
         return units::lists::refused(o.refusal);
@@ -45,7 +47,7 @@ pub fn smaller_unit_over(o: Opened) -> Made
     let x = o.a;
     let y = o.b;
     let s = o.slots;
-    let w = reduction::reduce::smaller_unit(x, y, s.len);
+    let w = reduction::reduce::smaller_unit(x, y, s.len, nums, dens);
     match w {
         Smaller::First => {
             let u = super::opening::factors_of(x);
@@ -68,12 +70,14 @@ pub fn smaller_unit_over(o: Opened) -> Made
 pub fn smaller_unit(rows: Rows, a: Factors, b: Factors) -> Made
     ensures { λ r. ⌜ r ≡ madeOf (spec.smallerUnit rows a b) ⌝ }
 {
-    let o = super::opening::open_lists(rows, a, b);
-    smaller_unit_over(o)
+    let mut nums = [0i32; 2048];
+    let mut dens = [1u32; 2048];
+    let o = super::opening::open_lists(rows, a, b, &mut nums, &mut dens);
+    smaller_unit_over(o, &nums, &dens)
 }
 
-pub fn is_multiple_of_over(o: Opened) -> Multiple
-    ensures { λ r. ⌜ ((rows : Rowsᵛ) (a b : Factorsᵛ) → o ≡ openedOf (baseRows rows) (opening rows a b) → r ≡ multipleIs (spec.multiple rows a b)) ⌝ }
+pub fn is_multiple_of_over(o: Opened, nums: &[i32], dens: &[u32]) -> Multiple
+    ensures { λ r. ⌜ ((rows : Rowsᵛ) (a b : Factorsᵛ) → o ≡ openedOf (baseRows rows) (opening rows a b) → Tells rows (now (nums .entry)) (now (dens .entry)) → r ≡ multipleIs (spec.multiple rows a b)) ⌝ }
 {
     if o.refusal != 0 {
         return Multiple::Refused(o.refusal);
@@ -81,12 +85,14 @@ pub fn is_multiple_of_over(o: Opened) -> Multiple
     let x = o.a;
     let y = o.b;
     let s = o.slots;
-    reduction::multiples::is_multiple_of(x, y, s.len)
+    reduction::multiples::is_multiple_of(x, y, s.len, nums, dens)
 }
 
 pub fn is_multiple_of(rows: Rows, a: Factors, b: Factors) -> Multiple
     ensures { λ r. ⌜ r ≡ multipleIs (spec.multiple rows a b) ⌝ }
 {
-    let o = super::opening::open_lists(rows, a, b);
-    is_multiple_of_over(o)
+    let mut nums = [0i32; 2048];
+    let mut dens = [1u32; 2048];
+    let o = super::opening::open_lists(rows, a, b, &mut nums, &mut dens);
+    is_multiple_of_over(o, &nums, &dens)
 }

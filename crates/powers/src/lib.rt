@@ -4,7 +4,7 @@ ghost use mathlib.Core.Path.{_≡_};
 ghost use Prim.Native.Nat.{_≤_};
 ghost use Rattle.units.specs.declared.Rows.{Rows as Rowsᵛ};
 ghost use Rattle.units.specs.Lists.{listOf};
-ghost use Rattle.lists.specs.Opening.{baseRows, opening, openedOf};
+ghost use Rattle.lists.specs.Opening.{Tells, baseRows, opening, openedOf};
 ghost use Rattle.values.specs.Quantities.{answeredOf};
 ghost use Rattle.powers.specs.Powers as powers;
 ghost use Rattle.powers.specs.Calls as spec;
@@ -46,8 +46,8 @@ fn raised_to(value: f64, l: Factors, x: f64) -> Answer
 }
 
 // The exponent is a quantity: it is converted to the empty list first. Over the opened table and lists.
-pub fn checked_power_over(o: Opened, q: Quantity, p: Quantity) -> Answer
-    ensures { λ r. ⌜ ((rows : Rowsᵛ) → o ≡ openedOf (baseRows rows) (opening rows (q .unit) (p .unit)) → r ≡ answeredOf (spec.checkedPower rows q p)) ⌝ }
+pub fn checked_power_over(o: Opened, q: Quantity, p: Quantity, nums: &[i32], dens: &[u32]) -> Answer
+    ensures { λ r. ⌜ ((rows : Rowsᵛ) → o ≡ openedOf (baseRows rows) (opening rows (q .unit) (p .unit)) → Tells rows (now (nums .entry)) (now (dens .entry)) → r ≡ answeredOf (spec.checkedPower rows q p)) ⌝ }
 {
     if o.refusal != 0 {
         return answers::refused(o.refusal);
@@ -56,7 +56,7 @@ pub fn checked_power_over(o: Opened, q: Quantity, p: Quantity) -> Answer
     let b = o.b;
     let s = o.slots;
     let scalar = tables::no_items();
-    let c = conversion::convert::convert(p.value, b, scalar, s.len);
+    let c = conversion::convert::convert(p.value, b, scalar, s.len, nums, dens);
     let Converted::Value(x) = c else {
         return answers::refused(conversion::convert::refusal_of(c));
     };
@@ -71,8 +71,10 @@ pub fn checked_power_over(o: Opened, q: Quantity, p: Quantity) -> Answer
 pub fn checked_power(rows: Rows, q: Quantity, p: Quantity) -> Answer
     ensures { λ r. ⌜ r ≡ answeredOf (spec.checkedPower rows q p) ⌝ }
 {
+    let mut nums = [0i32; 2048];
+    let mut dens = [1u32; 2048];
     let u = q.unit;
     let w = p.unit;
-    let o = lists::opening::open_lists(rows, u, w);
-    checked_power_over(o, q, p)
+    let o = lists::opening::open_lists(rows, u, w, &mut nums, &mut dens);
+    checked_power_over(o, q, p, &nums, &dens)
 }

@@ -4,6 +4,7 @@ use mathlib.Core.Bool.{false}
 use mathlib.Core.List.{List, [], _++_}
 use Prim.Native.Nat.{ℕ, _≤_}
 use native.Mathlib.Omega.{arith}
+use lib.IntN.{ℤ}
 use lib.Ieee.{Float}
 use lib.ListN.{length}
 use Rattle.exponents.specs.Outcome.{Outcome, given}
@@ -15,15 +16,15 @@ use Rattle.units.specs.Lists.{some, factorFault}
 use Rattle.tables.specs.declared.Items.{Items}
 use Rattle.tables.specs.Scale.{binary64, sizeBy}
 use Rattle.tables.specs.Rows.{Facts, scaleAt, rowsOf}
-use Rattle.tables.specs.Items.{View, viewBases, packItems, packed}
+use Rattle.tables.specs.Items.{View, Lent, viewBases, packItems, packed}
 use Rattle.tables.proofs.Slotting.{slots-few}
 use Rattle.canonical.specs.Order.{Atom, orderIn, byPlace}
 use Rattle.canonical.proofs.Agree.{Atoms}
-use Rattle.lists.specs.Opening.{Opening, baseRows, opening, openedOf}
+use Rattle.lists.specs.Opening.{Opening, Tells, baseRows, opening, openedOf}
 use Rattle.lists.specs.Calls.{basesIn}
 use Rattle.lists.specs.declared.opening.Opened.{Opened}
 use Rattle.lists.proofs.Checks.{open-by, unopened-by, Call, call-refuses, call-goes, lists-known}
-use Rattle.lists.proofs.Ends.{slots-len, bases-agree}
+use Rattle.lists.proofs.Ends.{slots-len, bases-agree, lent-of}
 use Rattle.lists.proofs.Views.{view, Named, places-agree, first-named, second-named}
 use Rattle.conversion.specs.Conversion.{convert, convertedOf}
 use Rattle.conversion.specs.declared.convert.Converted.{Converted}
@@ -75,8 +76,8 @@ module _ (t : Rows) (a b : Factors) (x : Opened) (e : x ≡ openedOf (baseRows t
   stopped W h = call-refuses t a b W (x .refusal) (unopened-by (baseRows t) (opening t a b) x e h)
 
 -- what code promises of a conversion from l to m
-abbrev pub Converts : Float → Items → Items → ℕ → Converted → Type 0
-Converts y l m n c = (v : View) (fs gs : List Factor) → l ≡ packItems v fs → m ≡ packItems v gs → length fs ≤ 16 → length gs ≤ 16 → n ≤ 16 → some factorFault fs ≡ false → some factorFault gs ≡ false → c ≡ convertedOf (convert (byPlace v) (viewBases v n) binary64 (sizeBy (v .scale)) fs gs y)
+abbrev pub Converts : List ℤ → List ℕ → Float → Items → Items → ℕ → Converted → Type 0
+Converts nums dens y l m n c = (v : View) → Lent v nums dens → (fs gs : List Factor) → l ≡ packItems v fs → m ≡ packItems v gs → length fs ≤ 16 → length gs ≤ 16 → n ≤ 16 → some factorFault fs ≡ false → some factorFault gs ≡ false → c ≡ convertedOf (convert (byPlace v) (viewBases v n) binary64 (sizeBy (v .scale)) fs gs y)
 
 -- the empty list, as code holds it
 pub no-items : (v : View) → packed [] ≡ packItems v []
@@ -108,22 +109,26 @@ module _ {t : Rows} {a b : Factors} {x : Opened} (r : Ready t a b x) where
       convert-agrees Own (byPlace seen) (orderIn (r .ks)) (places-agree (r .ks) (r .fs) (r .gs)) (viewBases seen (x .slots .len)) binary64 (sizeBy (scaleAt (r .ks))) l m y h k
       ∙ ap (λ bs. convert (orderIn (r .ks)) bs binary64 (sizeBy (scaleAt (r .ks))) l m y) (r .bases)
 
-  module _ (y : Float) (c : Converted) where
+  -- the arrays tell the base exponents of the rows as they are seen
+  pub lent : (nums : List ℤ) (dens : List ℕ) → Tells t nums dens → Lent seen nums dens
+  lent = lent-of a b t (laid (r .ks) (r .fs) (r .gs)) (r .opened)
+
+  module _ (nums : List ℤ) (dens : List ℕ) (tells : Tells t nums dens) (y : Float) (c : Converted) where
     -- the first list to the second
-    pub forth : Converts y (x .a) (x .b) (x .slots .len) c → c ≡ convertedOf (convertIn t (r .ks) (r .fs) (r .gs) y)
+    pub forth : Converts nums dens y (x .a) (x .b) (x .slots .len) c → c ≡ convertedOf (convertIn t (r .ks) (r .fs) (r .gs) y)
     forth p =
-        p seen (r .fs) (r .gs) (r .first) (r .second) (r .first-short) (r .second-short) (r .few) (r .first-shaped) (r .second-shaped)
+        p seen (lent nums dens tells) (r .fs) (r .gs) (r .first) (r .second) (r .first-short) (r .second-short) (r .few) (r .first-shaped) (r .second-shaped)
         ∙ ap convertedOf (in-table (r .fs) (r .gs) firsts seconds y)
 
     -- the second to the first
-    pub back : Converts y (x .b) (x .a) (x .slots .len) c → c ≡ convertedOf (convertIn t (r .ks) (r .gs) (r .fs) y)
+    pub back : Converts nums dens y (x .b) (x .a) (x .slots .len) c → c ≡ convertedOf (convertIn t (r .ks) (r .gs) (r .fs) y)
     back p =
-        p seen (r .gs) (r .fs) (r .second) (r .first) (r .second-short) (r .first-short) (r .few) (r .second-shaped) (r .first-shaped)
+        p seen (lent nums dens tells) (r .gs) (r .fs) (r .second) (r .first) (r .second-short) (r .first-short) (r .few) (r .second-shaped) (r .first-shaped)
         ∙ ap convertedOf (in-table (r .gs) (r .fs) seconds firsts y)
 
     -- the second to scalar
-    pub to-scalar : (u : Items) → u ≡ packed [] → Converts y (x .b) u (x .slots .len) c → c ≡ convertedOf (convertIn t (r .ks) (r .gs) [] y)
+    pub to-scalar : (u : Items) → u ≡ packed [] → Converts nums dens y (x .b) u (x .slots .len) c → c ≡ convertedOf (convertIn t (r .ks) (r .gs) [] y)
     unfolding some
     to-scalar u e p =
-        p seen (r .gs) [] (r .second) (e ∙ no-items seen) (r .second-short) (omega arith) (r .few) (r .second-shaped) refl
+        p seen (lent nums dens tells) (r .gs) [] (r .second) (e ∙ no-items seen) (r .second-short) (omega arith) (r .few) (r .second-shaped) refl
         ∙ ap convertedOf (in-table (r .gs) [] seconds tt y)

@@ -2,7 +2,7 @@
 ghost use mathlib.Core.Path.{_≡_};
 ghost use Rattle.units.specs.declared.Rows.{Rows as Rowsᵛ};
 ghost use Rattle.canonical.specs.Equality.{verdictOf};
-ghost use Rattle.lists.specs.Opening.{baseRows, opening, openedOf};
+ghost use Rattle.lists.specs.Opening.{Tells, baseRows, opening, openedOf};
 ghost use Rattle.quantities.specs.Comparisons as comparisons;
 ghost use Rattle.quantities.specs.Comparisons.{comparedOf};
 ghost use Rattle.quantities.specs.Calls as spec;
@@ -37,8 +37,8 @@ fn is_equal(x: f64, c: Converted) -> Verdict
 }
 
 // Over the opened table and lists.
-pub fn equal_over(o: Opened, q: Quantity, p: Quantity) -> Verdict
-    ensures { λ r. ⌜ ((rows : Rowsᵛ) → o ≡ openedOf (baseRows rows) (opening rows (q .unit) (p .unit)) → r ≡ verdictOf (spec.equal rows q p)) ⌝ }
+pub fn equal_over(o: Opened, q: Quantity, p: Quantity, nums: &[i32], dens: &[u32]) -> Verdict
+    ensures { λ r. ⌜ ((rows : Rowsᵛ) → o ≡ openedOf (baseRows rows) (opening rows (q .unit) (p .unit)) → Tells rows (now (nums .entry)) (now (dens .entry)) → r ≡ verdictOf (spec.equal rows q p)) ⌝ }
 {
     if o.refusal != 0 {
         return Verdict::Refused(o.refusal);
@@ -46,17 +46,19 @@ pub fn equal_over(o: Opened, q: Quantity, p: Quantity) -> Verdict
     let a = o.a;
     let b = o.b;
     let s = o.slots;
-    let c = conversion::convert::convert(p.value, b, a, s.len);
+    let c = conversion::convert::convert(p.value, b, a, s.len, nums, dens);
     is_equal(q.value, c)
 }
 
 pub fn equal(rows: Rows, q: Quantity, p: Quantity) -> Verdict
     ensures { λ r. ⌜ r ≡ verdictOf (spec.equal rows q p) ⌝ }
 {
+    let mut nums = [0i32; 2048];
+    let mut dens = [1u32; 2048];
     let u = q.unit;
     let w = p.unit;
-    let o = lists::opening::open_lists(rows, u, w);
-    equal_over(o, q, p)
+    let o = lists::opening::open_lists(rows, u, w, &mut nums, &mut dens);
+    equal_over(o, q, p, &nums, &dens)
 }
 
 // The order of two values; NAN where one is a NaN.
@@ -77,8 +79,8 @@ fn ordered(x: f64, y: f64) -> Compared
 }
 
 // `partial_cmp_preserve_nan`, over the opened table and lists.
-pub fn compare_over(o: Opened, q: Quantity, p: Quantity) -> Compared
-    ensures { λ r. ⌜ ((rows : Rowsᵛ) → o ≡ openedOf (baseRows rows) (opening rows (q .unit) (p .unit)) → r ≡ comparedOf (spec.compare rows q p)) ⌝ }
+pub fn compare_over(o: Opened, q: Quantity, p: Quantity, nums: &[i32], dens: &[u32]) -> Compared
+    ensures { λ r. ⌜ ((rows : Rowsᵛ) → o ≡ openedOf (baseRows rows) (opening rows (q .unit) (p .unit)) → Tells rows (now (nums .entry)) (now (dens .entry)) → r ≡ comparedOf (spec.compare rows q p)) ⌝ }
 {
     if o.refusal != 0 {
         return Compared::Refused(o.refusal);
@@ -89,7 +91,7 @@ pub fn compare_over(o: Opened, q: Quantity, p: Quantity) -> Compared
     let a = o.a;
     let b = o.b;
     let s = o.slots;
-    let c = conversion::convert::convert(p.value, b, a, s.len);
+    let c = conversion::convert::convert(p.value, b, a, s.len, nums, dens);
     let Converted::Value(y) = c else {
         return Compared::Refused(conversion::convert::refusal_of(c));
     };
@@ -100,8 +102,10 @@ pub fn compare_over(o: Opened, q: Quantity, p: Quantity) -> Compared
 pub fn compare(rows: Rows, q: Quantity, p: Quantity) -> Compared
     ensures { λ r. ⌜ r ≡ comparedOf (spec.compare rows q p) ⌝ }
 {
+    let mut nums = [0i32; 2048];
+    let mut dens = [1u32; 2048];
     let u = q.unit;
     let w = p.unit;
-    let o = lists::opening::open_lists(rows, u, w);
-    compare_over(o, q, p)
+    let o = lists::opening::open_lists(rows, u, w, &mut nums, &mut dens);
+    compare_over(o, q, p, &nums, &dens)
 }

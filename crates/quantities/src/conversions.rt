@@ -2,7 +2,7 @@
 ghost use mathlib.Core.Path.{_≡_};
 ghost use Rattle.units.specs.declared.Factors.{Factors as Factorsᵛ};
 ghost use Rattle.units.specs.declared.Rows.{Rows as Rowsᵛ};
-ghost use Rattle.lists.specs.Opening.{baseRows, opening, openedOf};
+ghost use Rattle.lists.specs.Opening.{Tells, baseRows, opening, openedOf};
 ghost use Rattle.values.specs.Quantities.{answeredOf};
 ghost use Rattle.quantities.specs.Calls as spec;
 use conversion::convert::Converted;
@@ -14,8 +14,8 @@ use values::answers;
 use values::answers::Answer;
 
 // Over the opened table and lists.
-pub fn convert_to_over(o: Opened, q: Quantity) -> Answer
-    ensures { λ r. ⌜ ((rows : Rowsᵛ) (target : Factorsᵛ) → o ≡ openedOf (baseRows rows) (opening rows (q .unit) target) → r ≡ answeredOf (spec.convertTo rows q target)) ⌝ }
+pub fn convert_to_over(o: Opened, q: Quantity, nums: &[i32], dens: &[u32]) -> Answer
+    ensures { λ r. ⌜ ((rows : Rowsᵛ) (target : Factorsᵛ) → o ≡ openedOf (baseRows rows) (opening rows (q .unit) target) → Tells rows (now (nums .entry)) (now (dens .entry)) → r ≡ answeredOf (spec.convertTo rows q target)) ⌝ }
 {
     if o.refusal != 0 {
         return answers::refused(o.refusal);
@@ -23,7 +23,7 @@ pub fn convert_to_over(o: Opened, q: Quantity) -> Answer
     let a = o.a;
     let b = o.b;
     let s = o.slots;
-    let c = conversion::convert::convert(q.value, a, b, s.len);
+    let c = conversion::convert::convert(q.value, a, b, s.len, nums, dens);
     let Converted::Value(v) = c else {
         return answers::refused(conversion::convert::refusal_of(c));
     };
@@ -34,7 +34,9 @@ pub fn convert_to_over(o: Opened, q: Quantity) -> Answer
 pub fn convert_to(rows: Rows, q: Quantity, target: Factors) -> Answer
     ensures { λ r. ⌜ r ≡ answeredOf (spec.convertTo rows q target) ⌝ }
 {
+    let mut nums = [0i32; 2048];
+    let mut dens = [1u32; 2048];
     let u = q.unit;
-    let o = lists::opening::open_lists(rows, u, target);
-    convert_to_over(o, q)
+    let o = lists::opening::open_lists(rows, u, target, &mut nums, &mut dens);
+    convert_to_over(o, q, &nums, &dens)
 }

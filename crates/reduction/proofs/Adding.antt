@@ -6,6 +6,7 @@ use Prim.Native.Nat.{ℕ, zero, suc, _+_, _-_, _≤_, _<_}
 use native.Mathlib.Omega.{arith}
 use native.Mathlib.Numerals.{add-one}
 use lib.Dec.{eqb}
+use lib.IntN.{ℤ}
 use lib.ListN.{length, take, drop, getD, set, replicate, take-append-drop}
 use lib.Seq.{getD-set-same, getD-set-other, drop-set-lt, length-take-le, take-all, take-suc}
 use borrow.Author.Tests.{eqb-true, eqb-false}
@@ -23,12 +24,12 @@ use Rattle.units.specs.Lists.{some}
 use Rattle.units.specs.declared.Factor.{Factor}
 use Rattle.tables.specs.Lists.{baseAt, base}
 use Rattle.tables.specs.Rows.{places, packExps, noExps, expsOf}
-use Rattle.tables.specs.Items.{View, viewAt, viewBases, itemOf}
+use Rattle.tables.specs.Pages.{told}
+use Rattle.tables.specs.Items.{View, Lent, viewAt, viewBases, itemOf}
 use Rattle.tables.specs.declared.Item.{Item}
 use Rattle.reduction.specs.declared.bases.Partial.{Partial}
 use Rattle.reduction.specs.Partial.{Summed}
 use Rattle.canonical.proofs.Packs.{any-default}
-use Rattle.reduction.proofs.Resolved.{item-exp, item-exponent}
 
 -- ---- one factor more at one base row
 bind-id : {A : Type 0} (o : Outcome A) → bind o given ≡ o
@@ -116,24 +117,23 @@ module _ (v : View) (n : ℕ) (fs : List Factor) (f : Factor) where
     clean = a .clean;
   }
 
--- ---- the code's turn: it has read an item and the sum so far, and `term` is what it made of them
-abbrev pub read : Item → List Exponent → ℕ → Exponent → Exponent → Outcome Exponent
-read it at s x y = bind (mul? (it .factor .exponent) (getD (it .exps) s x)) (λ t. add? (getD at s y) t)
+-- ---- the code's turn: it has the factor's own exponent d at base row s and the sum so far, and `term` is what it made of them
+abbrev pub read : Factor → List Exponent → ℕ → Exponent → Exponent → Outcome Exponent
+read f at s d y = bind (mul? (f .exponent) d) (λ t. add? (getD at s y) t)
 
-module _ (v : View) (n : ℕ) (fs : List Factor) (f : Factor) (it : Item) (is : it ≡ itemOf v f) (rule : faulty (f .exponent) ≡ false)
+module _ (v : View) (n : ℕ) (fs : List Factor) (f : Factor) (rule : faulty (f .exponent) ≡ false)
     (p : Partial) (short : n ≤ 16) (so : Summed v n fs p) (at : List Exponent) (s : ℕ) (a : Adding v n fs f (p .stop) at s)
-    (h : s < p .stop) (full : length at ≡ 16) (wide : length (it .exps) ≡ 16) (x y : Exponent)
-    (term : Fraction) (got : faulty (it .factor .exponent) ≡ false → faulty (getD at s y) ≡ false → term ≡ fractionOf (read it at s x y)) where
-  reads : read it at s x y ≡ more fs f (viewAt v s) (getD at s nought)
+    (h : s < p .stop) (full : length at ≡ 16) (nums : List ℤ) (dens : List ℕ) (lent : Lent v nums dens) (d : Exponent) (own : d ≡ told nums dens (f .row) s) (y : Exponent)
+    (term : Fraction) (got : faulty (f .exponent) ≡ false → faulty (getD at s y) ≡ false → term ≡ fractionOf (read f at s d y)) where
+  reads : read f at s d y ≡ more fs f (viewAt v s) (getD at s nought)
   reads =
       let k : s < 16 = omega (arith, so .within) in
-      ap (λ (e : Exponent). bind (mul? e (getD (it .exps) s x)) (λ t. add? (getD at s y) t)) (item-exponent v it f is)
-      ∙ ap₂ (λ (d acc : Exponent). bind (mul? (f .exponent) d) (λ t. add? acc t)) (item-exp v it f is s x (omega arith)) (any-default at s y nought (omega arith))
+      ap₂ (λ (d acc : Exponent). bind (mul? (f .exponent) d) (λ t. add? acc t)) (own ∙ sym (lent (f .row) s k)) (any-default at s y nought (omega arith))
 
   is-term : term ≡ fractionOf (more fs f (viewAt v s) (getD at s nought))
   is-term =
       let k : s < 16 = omega (arith, so .within) in
-      got (ap faulty (item-exponent v it f is) ∙ rule) (ap faulty (any-default at s y nought (omega arith)) ∙ base-sound fs (viewAt v s) (getD at s nought) (so-far v n fs f (p .stop) at s a h))
+      got rule (ap faulty (any-default at s y nought (omega arith)) ∙ base-sound fs (viewAt v s) (getD at s nought) (so-far v n fs f (p .stop) at s a h))
       ∙ ap fractionOf reads
 
   pub factor-on : (u : Exponent) → term ≡ Exact u → Adding v n fs f (p .stop) (set at s u) (s + 1)

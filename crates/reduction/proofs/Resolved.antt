@@ -29,7 +29,7 @@ use Rattle.tables.proofs.Scaling.{scale-on, scale-off, scale-end, value-given, 
 
 -- what a read past the end of an array gives: never met
 abbrev pub nilItem : Item
-nilItem = record { exps = []; factor = nilFactor; scale = nan; place = 0; class = 0; base = false }
+nilItem = record { factor = nilFactor; scale = nan; place = 0; class = 0; base = false }
 
 module _ (v : View) (l : Items) (fs : List Factor) (e : l ≡ packItems v fs) where
   pub items-len : l .len ≡ length fs
@@ -43,14 +43,6 @@ module _ (v : View) (l : Items) (fs : List Factor) (e : l ≡ packItems v fs) wh
       ap (λ (l : Items). getD (l .at) i d) e
       ∙ List·getD-append (map (itemOf v) fs) (replicate (16 - length fs) noItem) d i k
       ∙ get-map (itemOf v) fs i f d h
-
--- what is read of an item
-module _ (v : View) (it : Item) (f : Factor) (e : it ≡ itemOf v f) where
-  pub item-exp : (s : ℕ) (d : Exponent) → s < length (it .exps) → getD (it .exps) s d ≡ viewAt v s (f .row)
-  item-exp s d h = any-default (it .exps) s d nought h ∙ ap (λ (it : Item). getD (it .exps) s nought) e
-
-  pub item-exponent : it .factor .exponent ≡ f .exponent
-  item-exponent = ap (λ (it : Item). it .factor .exponent) e
 
 -- a checked list's exponents keep their rule
 pub sound-at : (fs : List Factor) (i : ℕ) (f : Factor) → i < length fs → some factorFault fs ≡ false → faulty (getD fs i f .exponent) ≡ false

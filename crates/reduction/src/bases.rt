@@ -10,7 +10,7 @@ ghost use Rattle.units.specs.Lists.{some, factorFault};
 ghost use Rattle.tables.specs.Lists.{base};
 ghost use Rattle.tables.specs.Scale.{binary64, scaleFrom, scale, sizeBy};
 ghost use Rattle.tables.specs.Rows.{expsOf, scaledOf};
-ghost use Rattle.tables.specs.Items.{View, viewBases, itemOf, packItems};
+ghost use Rattle.tables.specs.Items.{View, Lent, viewBases, itemOf, packItems};
 ghost use Rattle.canonical.specs.Canonical.{sameAll, allNought};
 ghost use Rattle.reduction.specs.Partial.{Summed};
 use exponents::Exponent;
@@ -50,8 +50,8 @@ fn none_yet(n: usize) -> Partial
 }
 
 // One factor more.
-fn with_factor(p: Partial, it: Item) -> Partial
-    ensures { λ r. ⌜ ((v : View) (n : ℕ) (fs : List Factorᵛ) (f : Factorᵛ) → it ≡ itemOf v f → isFaulty (f .exponent) ≡ false → n ≤ 16 → Summed v n fs p → Summed v n (fs ++ (f ∷ [])) r) ⌝ }
+fn with_factor(p: Partial, it: Item, nums: &[i32], dens: &[u32]) -> Partial
+    ensures { λ r. ⌜ ((v : View) → Lent v (now (nums .entry)) (now (dens .entry)) → (n : ℕ) (fs : List Factorᵛ) (f : Factorᵛ) → it ≡ itemOf v f → isFaulty (f .exponent) ≡ false → n ≤ 16 → Summed v n fs p → Summed v n (fs ++ (f ∷ [])) r) ⌝ }
 {
     let f = it.factor;
     let e = f.exponent;
@@ -60,7 +60,7 @@ fn with_factor(p: Partial, it: Item) -> Partial
     let mut s: usize = 0;
     while s < m {
         let acc = at[s];
-        let d = it.exps[s];
+        let d = tables::pages::exponent_of(nums, dens, f.row, s);
         let x = tables::rows::with_term(acc, e, d);
         match x {
             Fraction::Exact(t) => {
@@ -84,15 +84,15 @@ fn with_factor(p: Partial, it: Item) -> Partial
 }
 
 // The factors of a list more.
-fn with_list(p: Partial, l: Items) -> Partial
-    ensures { λ r. ⌜ ((v : View) (n : ℕ) (fs gs : List Factorᵛ) → l ≡ packItems v gs → length gs ≤ 16 → some factorFault gs ≡ false → n ≤ 16 → Summed v n fs p → Summed v n (fs ++ gs) r) ⌝ }
+fn with_list(p: Partial, l: Items, nums: &[i32], dens: &[u32]) -> Partial
+    ensures { λ r. ⌜ ((v : View) → Lent v (now (nums .entry)) (now (dens .entry)) → (n : ℕ) (fs gs : List Factorᵛ) → l ≡ packItems v gs → length gs ≤ 16 → some factorFault gs ≡ false → n ≤ 16 → Summed v n fs p → Summed v n (fs ++ gs) r) ⌝ }
 {
     let m = capped(l.len);
     let mut o = p;
     let mut i: usize = 0;
     while i < m {
         let it = l.at[i];
-        o = with_factor(o, it);
+        o = with_factor(o, it, nums, dens);
         i += 1;
     }
     o
@@ -110,30 +110,30 @@ fn finished(p: Partial, n: usize) -> Exps
 }
 
 // The base exponents of a list at the first n base rows.
-pub fn base_of(l: Items, n: usize) -> Exps
-    ensures { λ r. ⌜ ((v : View) (fs : List Factorᵛ) → l ≡ packItems v fs → length fs ≤ 16 → n ≤ 16 → some factorFault fs ≡ false → r ≡ expsOf (base (viewBases v n) fs)) ⌝ }
+pub fn base_of(l: Items, n: usize, nums: &[i32], dens: &[u32]) -> Exps
+    ensures { λ r. ⌜ ((v : View) → Lent v (now (nums .entry)) (now (dens .entry)) → (fs : List Factorᵛ) → l ≡ packItems v fs → length fs ≤ 16 → n ≤ 16 → some factorFault fs ≡ false → r ≡ expsOf (base (viewBases v n) fs)) ⌝ }
 {
     let none = none_yet(n);
-    let p = with_list(none, l);
+    let p = with_list(none, l, nums, dens);
     finished(p, n)
 }
 
 // The base exponents of one factor.
-pub fn base_of_item(it: Item, n: usize) -> Exps
-    ensures { λ r. ⌜ ((v : View) (f : Factorᵛ) → it ≡ itemOf v f → isFaulty (f .exponent) ≡ false → n ≤ 16 → r ≡ expsOf (base (viewBases v n) (f ∷ []))) ⌝ }
+pub fn base_of_item(it: Item, n: usize, nums: &[i32], dens: &[u32]) -> Exps
+    ensures { λ r. ⌜ ((v : View) → Lent v (now (nums .entry)) (now (dens .entry)) → (f : Factorᵛ) → it ≡ itemOf v f → isFaulty (f .exponent) ≡ false → n ≤ 16 → r ≡ expsOf (base (viewBases v n) (f ∷ []))) ⌝ }
 {
     let none = none_yet(n);
-    let p = with_factor(none, it);
+    let p = with_factor(none, it, nums, dens);
     finished(p, n)
 }
 
 // The base exponents of l and then m, joined: a conversion's own list over its common factors is such a pair.
-pub fn base_exponents(l: Items, m: Items, n: usize) -> Exps
-    ensures { λ r. ⌜ ((v : View) (fs gs : List Factorᵛ) → l ≡ packItems v fs → m ≡ packItems v gs → length fs ≤ 16 → length gs ≤ 16 → n ≤ 16 → some factorFault (fs ++ gs) ≡ false → r ≡ expsOf (base (viewBases v n) (fs ++ gs))) ⌝ }
+pub fn base_exponents(l: Items, m: Items, n: usize, nums: &[i32], dens: &[u32]) -> Exps
+    ensures { λ r. ⌜ ((v : View) → Lent v (now (nums .entry)) (now (dens .entry)) → (fs gs : List Factorᵛ) → l ≡ packItems v fs → m ≡ packItems v gs → length fs ≤ 16 → length gs ≤ 16 → n ≤ 16 → some factorFault (fs ++ gs) ≡ false → r ≡ expsOf (base (viewBases v n) (fs ++ gs))) ⌝ }
 {
     let none = none_yet(n);
-    let p = with_list(none, l);
-    let q = with_list(p, m);
+    let p = with_list(none, l, nums, dens);
+    let q = with_list(p, m, nums, dens);
     finished(q, n)
 }
 

@@ -7,7 +7,7 @@ ghost use lib.ListN.{length};
 ghost use Rattle.exponents.specs.Fractions.{fractionOf, mul?, faulty as isFaulty};
 ghost use Rattle.units.specs.declared.Factor.{Factor as Factorᵛ};
 ghost use Rattle.units.specs.Lists.{some, factorFault};
-ghost use Rattle.tables.specs.Items.{View, viewBases, packItems};
+ghost use Rattle.tables.specs.Items.{View, Lent, viewBases, packItems};
 ghost use Rattle.reduction.specs.Multiple.{firstBase, fits as fitsBy, multipleOf, isMultiple, multipleIs};
 use exponents::Exponent;
 use exponents::Fraction;
@@ -99,14 +99,14 @@ fn multiple_of(a: [Exponent; 16], b: [Exponent; 16]) -> Multiple
 }
 
 // Where there are n base rows: RANGE of a's base exponents, of b's, then of the quotient and the products.
-pub fn is_multiple_of(a: Items, b: Items, n: usize) -> Multiple
-    ensures { λ r. ⌜ ((v : View) (fs gs : List Factorᵛ) → a ≡ packItems v fs → b ≡ packItems v gs → length fs ≤ 16 → length gs ≤ 16 → n ≤ 16 → some factorFault fs ≡ false → some factorFault gs ≡ false → r ≡ multipleIs (isMultiple (viewBases v n) fs gs)) ⌝ }
+pub fn is_multiple_of(a: Items, b: Items, n: usize, nums: &[i32], dens: &[u32]) -> Multiple
+    ensures { λ r. ⌜ ((v : View) → Lent v (now (nums .entry)) (now (dens .entry)) → (fs gs : List Factorᵛ) → a ≡ packItems v fs → b ≡ packItems v gs → length fs ≤ 16 → length gs ≤ 16 → n ≤ 16 → some factorFault fs ≡ false → some factorFault gs ≡ false → r ≡ multipleIs (isMultiple (viewBases v n) fs gs)) ⌝ }
 {
-    let x = super::bases::base_of(a, n);
+    let x = super::bases::base_of(a, n, nums, dens);
     if x.refusal != 0 {
         return Multiple::Refused(x.refusal);
     }
-    let y = super::bases::base_of(b, n);
+    let y = super::bases::base_of(b, n, nums, dens);
     if y.refusal != 0 {
         return Multiple::Refused(y.refusal);
     }

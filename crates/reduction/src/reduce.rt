@@ -9,7 +9,7 @@ ghost use Rattle.units.specs.Lists.{some, factorFault, pack};
 ghost use Rattle.tables.specs.declared.Slot.{Slot as Slotᵛ};
 ghost use Rattle.tables.specs.Scale.{sizeBy};
 ghost use Rattle.tables.specs.Rows.{scaledOf, packSlots};
-ghost use Rattle.tables.specs.Items.{View, viewBases, packItems};
+ghost use Rattle.tables.specs.Items.{View, Lent, viewBases, packItems};
 ghost use Rattle.reduction.specs.Reduction.{baseFactor, reduced, reduction as reductionOf, reducedScale, smallerUnit, notReduced, reducedOf, smallerOf};
 use exponents::Exponent;
 use tables::Items;
@@ -76,10 +76,10 @@ pub fn not_reduced(refusal: u32) -> Reduced
 }
 
 // A list reduced: RANGE of its base exponents, then FRACTION of its scale.
-pub fn reduce_list(l: Items, slots: Slots) -> Reduced
-    ensures { λ r. ⌜ ((v : View) (fs : List Factorᵛ) (ss : List Slotᵛ) → l ≡ packItems v fs → slots ≡ packSlots ss → length fs ≤ 16 → length ss ≤ 16 → some factorFault fs ≡ false → r ≡ reducedOf (reductionOf (viewBases v (length ss)) (sizeBy (v .scale)) ss fs)) ⌝ }
+pub fn reduce_list(l: Items, slots: Slots, nums: &[i32], dens: &[u32]) -> Reduced
+    ensures { λ r. ⌜ ((v : View) → Lent v (now (nums .entry)) (now (dens .entry)) → (fs : List Factorᵛ) (ss : List Slotᵛ) → l ≡ packItems v fs → slots ≡ packSlots ss → length fs ≤ 16 → length ss ≤ 16 → some factorFault fs ≡ false → r ≡ reducedOf (reductionOf (viewBases v (length ss)) (sizeBy (v .scale)) ss fs)) ⌝ }
 {
-    let x = super::bases::base_of(l, slots.len);
+    let x = super::bases::base_of(l, slots.len, nums, dens);
     if x.refusal != 0 {
         return not_reduced(x.refusal);
     }
@@ -99,10 +99,10 @@ pub fn reduce_list(l: Items, slots: Slots) -> Reduced
 }
 
 // The scale of a list, after RANGE of its base exponents.
-fn reduced_scale(l: Items, n: usize) -> Scaled
-    ensures { λ r. ⌜ ((v : View) (fs : List Factorᵛ) → l ≡ packItems v fs → length fs ≤ 16 → n ≤ 16 → some factorFault fs ≡ false → r ≡ scaledOf (reducedScale (viewBases v n) (sizeBy (v .scale)) fs)) ⌝ }
+fn reduced_scale(l: Items, n: usize, nums: &[i32], dens: &[u32]) -> Scaled
+    ensures { λ r. ⌜ ((v : View) → Lent v (now (nums .entry)) (now (dens .entry)) → (fs : List Factorᵛ) → l ≡ packItems v fs → length fs ≤ 16 → n ≤ 16 → some factorFault fs ≡ false → r ≡ scaledOf (reducedScale (viewBases v n) (sizeBy (v .scale)) fs)) ⌝ }
 {
-    let x = super::bases::base_of(l, n);
+    let x = super::bases::base_of(l, n, nums, dens);
     if x.refusal != 0 {
         return Scaled::Refused(x.refusal);
     }
@@ -110,13 +110,13 @@ fn reduced_scale(l: Items, n: usize) -> Scaled
 }
 
 // The first if its scale is at most the second's, where there are n base rows.
-pub fn smaller_unit(a: Items, b: Items, n: usize) -> Smaller
-    ensures { λ r. ⌜ ((v : View) (fs gs : List Factorᵛ) → a ≡ packItems v fs → b ≡ packItems v gs → length fs ≤ 16 → length gs ≤ 16 → n ≤ 16 → some factorFault fs ≡ false → some factorFault gs ≡ false → r ≡ smallerOf (smallerUnit (viewBases v n) (sizeBy (v .scale)) fs gs)) ⌝ }
+pub fn smaller_unit(a: Items, b: Items, n: usize, nums: &[i32], dens: &[u32]) -> Smaller
+    ensures { λ r. ⌜ ((v : View) → Lent v (now (nums .entry)) (now (dens .entry)) → (fs gs : List Factorᵛ) → a ≡ packItems v fs → b ≡ packItems v gs → length fs ≤ 16 → length gs ≤ 16 → n ≤ 16 → some factorFault fs ≡ false → some factorFault gs ≡ false → r ≡ smallerOf (smallerUnit (viewBases v n) (sizeBy (v .scale)) fs gs)) ⌝ }
 {
-    let x = reduced_scale(a, n);
+    let x = reduced_scale(a, n, nums, dens);
     match x {
         Scaled::Value(s) => {
-            let y = reduced_scale(b, n);
+            let y = reduced_scale(b, n, nums, dens);
             match y {
                 Scaled::Value(t) => if s <= t {
                     Smaller::First

@@ -1,5 +1,5 @@
 -- What code reads from an admitted table is so: its base rows and base exponents, a factor with what is known of its row, and a conversion between two lists that passed.
-use mathlib.Core.Path.{_≡_, sym, ap, ap₂, _∙_}
+use mathlib.Core.Path.{_≡_, sym, ap, ap₂, _∙_, subst}
 use mathlib.Core.Bool.{Bool}
 use mathlib.Core.List.{List, [], _++_}
 use Prim.Native.Nat.{ℕ, _≤_}
@@ -15,37 +15,48 @@ use Rattle.units.specs.declared.Factors.{Factors}
 use Rattle.units.specs.declared.Rows.{Rows}
 use Rattle.units.specs.Lists.{checked, both}
 use Rattle.tables.specs.declared.Item.{Item}
-use Rattle.tables.specs.declared.Known.{Known}
 use Rattle.tables.specs.Lists.{base}
-use Rattle.tables.specs.Rows.{Facts, nobody, scaleAt, knownOf, packExps, rowsOf}
-use Rattle.tables.specs.Items.{itemOf, viewBases}
+use Rattle.tables.specs.Rows.{Facts, nobody, scaleAt, packExps, rowsOf, Admission}
+use Rattle.tables.specs.Pages.{Pages}
+use Rattle.tables.specs.Items.{itemOf, viewOf, viewBases, Lent}
 use Rattle.tables.proofs.Slotting.{slots-few}
+use Rattle.tables.proofs.Telling.{lent-view}
 use Rattle.resolution.specs.Resolve.{Keyed, resolvedOf}
 use Rattle.resolution.specs.declared.Resolved.{Resolved}
 use Rattle.resolution.proofs.Keyed.{admit-keyed}
 use Rattle.canonical.specs.Canonical.{sameAll}
 use Rattle.reduction.proofs.Compared.{packed-same}
 use Rattle.reduction.proofs.Handed.{base-long}
-use Rattle.lists.specs.Opening.{baseRows, known, opening}
+use Rattle.lists.specs.Opening.{baseRows, known, opening, Tells}
 use Rattle.lists.specs.Calls.{basesIn}
-use Rattle.lists.proofs.Ends.{bases-agree}
+use Rattle.lists.proofs.Ends.{bases-agree, tells-of}
 use Rattle.conversion.specs.Conversion.{convertedOf}
 use Rattle.conversion.specs.declared.convert.Converted.{Converted}
 use Rattle.quantities.specs.Calls.{convertIn}
 use Rattle.quantities.proofs.Ready.{Ready, Converts, forth}
+use Rattle.simplification.specs.Rules.{Lends}
+use Rattle.simplification.proofs.Lending.{lends-view}
 use Rattle.registry.specs.Registry.{plainView, Held}
 use Rattle.registry.proofs.GivenLists.{listed}
 
 -- a factor with what is known of its row
-pub plain-item : (ks : List Facts) (f : Factor) (k : Known) → k ≡ knownOf (getD ks (f .row) nobody) →
-    _≡_ {A = Item} (record { exps = k .exps; factor = f; scale = k .scale; place = 0; class = 0; base = k .base }) (itemOf (plainView ks) f)
-unfolding knownOf scaleAt
-plain-item ks f k e = ap (λ (k : Known). record { exps = k .exps; factor = f; scale = k .scale; place = 0; class = 0; base = k .base }) e
+pub plain-item : (ks : List Facts) (f : Factor) (x : Float) (y : Bool) → x ≡ scaleAt ks (f .row) → y ≡ getD ks (f .row) nobody .base → _≡_ {A = Item} (record { factor = f; scale = x; place = 0; class = 0; base = y }) (itemOf (plainView ks) f)
+plain-item ks f x y = ap₂ (λ (x : Float) (y : Bool). record { factor = f; scale = x; place = 0; class = 0; base = y })
 
 -- ---- an admitted table
 module _ {tb : Rows} {ks : List Facts} {n : ℕ} {nums : List ℤ} {dens : List ℕ} {scales : List Float} {ranks : List ℕ} {based : List Bool} (g : Held tb ks n nums dens scales ranks based) where
   pub keyed : Keyed ks
   keyed = admit-keyed tb ks (g .admits)
+
+  -- what the arrays tell of the rows
+  pub lent-plain : Lent (plainView ks) nums dens
+  lent-plain = lent-view ks [] nums dens scales ranks based (g .paged)
+
+  tells-held : Tells tb nums dens
+  tells-held = tells-of tb nums dens scales ranks based (subst (λ (a : Admission). Pages a nums dens scales ranks based) (sym (g .admits)) (g .paged))
+
+  pub lends-held : (l : List Factor) → Lends (viewOf ks l) nums dens
+  lends-held l = lends-view tb ks (ap known (g .admits)) l nums dens tells-held
 
   pub slots-short : n ≤ 16
   slots-short = omega (arith, g .bases, slots-few (rowsOf tb))
@@ -89,6 +100,6 @@ module _ {tb : Rows} {ks : List Facts} {n : ℕ} {nums : List ℤ} {dens : List 
           bases = bases-agree tb ks (ls ++ ms) n (g .bases);
         }
 
-    pub converts : (o : Resolved) → o ≡ resolvedOf ks (both (length ks) l m) → (y : Float) (c : Converted) → Converts y (o .a) (o .b) n c → c ≡ convertedOf (convertIn tb ks ls ms y)
+    pub converts : (o : Resolved) → o ≡ resolvedOf ks (both (length ks) l m) → (y : Float) (c : Converted) → Converts nums dens y (o .a) (o .b) n c → c ≡ convertedOf (convertIn tb ks ls ms y)
     unfolding ready-held
-    converts o e y c h = forth (ready-held o e) y c h
+    converts o e y c h = forth (ready-held o e) nums dens tells-held y c h

@@ -11,7 +11,7 @@ ghost use Rattle.units.specs.declared.Factor.{Factor as Factorᵛ};
 ghost use Rattle.units.specs.declared.Rows.{Rows as Rowsᵛ};
 ghost use Rattle.units.specs.Lists.{checked, pack};
 ghost use Rattle.tables.specs.Rows.{Facts, packExps, admitted, admit};
-ghost use Rattle.tables.specs.Pages.{Room, Paged, Pages, admittedOf};
+ghost use Rattle.tables.specs.Pages.{Room, Sized, Basic, Pages, admittedOf};
 ghost use Rattle.tables.specs.Items.{packItems};
 ghost use Rattle.canonical.specs.Equality.{verdictOf};
 ghost use Rattle.lists.specs.Opening.{baseRows};
@@ -71,16 +71,9 @@ fn candidates_fault(rows: usize, c: Candidates) -> u32
 }
 
 // A checked list with what is known of its rows, but for their order: enough for base exponents and scale.
-fn plain(
-    nums: &[i32],
-    dens: &[u32],
-    scales: &[f64],
-    ranks: &[u16],
-    based: &[bool],
-    l: Factors,
-) -> Items
-    requires { ⌜ Room (now nums) (now dens) (now scales) (now ranks) (now based) ⌝ }
-    ensures { λ r. ⌜ ((ks : List Facts) (fs : List Factorᵛ) → length ks ≤ 128 → Paged ks (now (nums .entry)) (now (dens .entry)) (now (scales .entry)) (now (ranks .entry)) (now (based .entry)) → checked (length ks) l ≡ given fs → r ≡ packItems (plainView ks) fs) ⌝ }
+fn plain(scales: &[f64], based: &[bool], l: Factors) -> Items
+    requires { ⌜ (length (now scales) ≡ 128) × (length (now based) ≡ 128) ⌝ }
+    ensures { λ r. ⌜ ((ks : List Facts) (fs : List Factorᵛ) → length ks ≤ 128 → Sized ks (now (scales .entry)) → Basic ks (now (based .entry)) → checked (length ks) l ≡ given fs → r ≡ packItems (plainView ks) fs) ⌝ }
 {
     let n = bases::capped(l.len);
     let mut o = tables::no_items();
@@ -91,15 +84,12 @@ fn plain(
         if 128 <= row {
             return tables::no_items();
         }
-        let k = tables::pages::known_at(nums, dens, scales, ranks, based, row);
-        let e = k.exps;
         o.at[i] = Item {
-            exps: e,
             factor: f,
-            scale: k.scale,
+            scale: scales[row],
             place: 0,
             class: 0,
-            base: k.base,
+            base: based[row],
         };
         o.len = i + 1;
         i += 1;
@@ -154,8 +144,8 @@ fn fits(
     if most <= m.len {
         return Verdict::No;
     }
-    let l = plain(nums, dens, scales, ranks, based, m);
-    let b = bases::base_of(l, n);
+    let l = plain(scales, based, m);
+    let b = bases::base_of(l, n, nums, dens);
     if b.refusal != 0 {
         return Verdict::Refused(b.refusal);
     }
@@ -190,13 +180,14 @@ fn converted(
     requires { ⌜ Room (now nums) (now dens) (now scales) (now ranks) (now based) ⌝ }
     ensures { λ r. ⌜ ((tb : Rowsᵛ) (ks : List Facts) (ls ms : List Factorᵛ) → len ≡ length ks → Held tb ks n (now (nums .entry)) (now (dens .entry)) (now (scales .entry)) (now (ranks .entry)) (now (based .entry)) → checked (length ks) l ≡ given ls → checked (length ks) m ≡ given ms → r ≡ convertedOf (convertIn tb ks ls ms v)) ⌝ }
 {
-    let o = resolution::resolve(len, nums, dens, scales, ranks, based, l, m);
+    let none = tables::no_items();
+    let o = resolution::resolve(len, nums, dens, scales, ranks, based, l, m, none);
     if o.refusal != 0 {
         return Converted::Refused(o.refusal);
     }
     let a = o.a;
     let b = o.b;
-    convert::convert(v, a, b, n)
+    convert::convert(v, a, b, n, nums, dens)
 }
 
 // ---- the candidates in turn
@@ -365,9 +356,9 @@ fn registered(
             refusal: 0,
         };
     }
-    let p = plain(nums, dens, scales, ranks, based, l);
+    let p = plain(scales, based, l);
     let slots = t.slots;
-    let b = bases::base_of(p, slots.len);
+    let b = bases::base_of(p, slots.len, nums, dens);
     if b.refusal != 0 {
         return answers::refused(b.refusal);
     }
@@ -431,7 +422,8 @@ pub fn full_simplify_with_over(
     }
     let u = q.unit;
     let none = units::lists::empty();
-    let o = resolution::resolve(t.len, nums, dens, scales, ranks, based, u, none);
+    let blank = tables::no_items();
+    let o = resolution::resolve(t.len, nums, dens, scales, ranks, based, u, none, blank);
     if o.refusal != 0 {
         return answers::refused(o.refusal);
     }
@@ -442,7 +434,7 @@ pub fn full_simplify_with_over(
     let a = o.a;
     if q.mark {
         let slots = t.slots;
-        let s = simplification::steps::simplified(q.value, a, slots.len);
+        let s = simplification::steps::simplified(q.value, a, slots.len, nums, dens);
         if s.refusal != 0 {
             return s;
         }

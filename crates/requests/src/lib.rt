@@ -44,46 +44,56 @@ pub fn list_power(table: &[u8], list: &[u8], exponent: &[u8], out: &mut [u8]) ->
 pub fn canonical(table: &[u8], list: &[u8], out: &mut [u8]) -> Reply
     ensures { λ r. ⌜ Replied (now (out .entry)) (spec.canonical (now (table .entry)) (now (list .entry))) r (now (out .exit)) ⌝ }
 {
+    let mut nums = [0i32; 2048];
+    let mut dens = [1u32; 2048];
     let l = arguments::list(list);
     let none = units::lists::empty();
-    let o = intake::open_lists(table, l, none);
+    let o = intake::open_lists(table, l, none, &mut nums, &mut dens);
     replies::unit(lists::forms::canonical_over(o), out)
 }
 
 pub fn same_list(table: &[u8], a: &[u8], b: &[u8], out: &mut [u8]) -> Reply
     ensures { λ r. ⌜ Replied (now (out .entry)) (spec.sameList (now (table .entry)) (now (a .entry)) (now (b .entry))) r (now (out .exit)) ⌝ }
 {
+    let mut nums = [0i32; 2048];
+    let mut dens = [1u32; 2048];
     let l = arguments::list(a);
     let m = arguments::list(b);
-    let o = intake::open_lists(table, l, m);
+    let o = intake::open_lists(table, l, m, &mut nums, &mut dens);
     replies::verdict(lists::forms::same_list_over(o), out)
 }
 
 pub fn reduce_list(table: &[u8], list: &[u8], out: &mut [u8]) -> Reply
     ensures { λ r. ⌜ Replied (now (out .entry)) (spec.reduceList (now (table .entry)) (now (list .entry))) r (now (out .exit)) ⌝ }
 {
+    let mut nums = [0i32; 2048];
+    let mut dens = [1u32; 2048];
     let l = arguments::list(list);
     let none = units::lists::empty();
-    let o = intake::open_lists(table, l, none);
-    replies::reduced(lists::reductions::reduce_list_over(o), out)
+    let o = intake::open_lists(table, l, none, &mut nums, &mut dens);
+    replies::reduced(lists::reductions::reduce_list_over(o, &nums, &dens), out)
 }
 
 pub fn smaller_unit(table: &[u8], a: &[u8], b: &[u8], out: &mut [u8]) -> Reply
     ensures { λ r. ⌜ Replied (now (out .entry)) (spec.smallerUnit (now (table .entry)) (now (a .entry)) (now (b .entry))) r (now (out .exit)) ⌝ }
 {
+    let mut nums = [0i32; 2048];
+    let mut dens = [1u32; 2048];
     let l = arguments::list(a);
     let m = arguments::list(b);
-    let o = intake::open_lists(table, l, m);
-    replies::unit(lists::reductions::smaller_unit_over(o), out)
+    let o = intake::open_lists(table, l, m, &mut nums, &mut dens);
+    replies::unit(lists::reductions::smaller_unit_over(o, &nums, &dens), out)
 }
 
 pub fn is_multiple_of(table: &[u8], a: &[u8], b: &[u8], out: &mut [u8]) -> Reply
     ensures { λ r. ⌜ Replied (now (out .entry)) (spec.isMultipleOf (now (table .entry)) (now (a .entry)) (now (b .entry))) r (now (out .exit)) ⌝ }
 {
+    let mut nums = [0i32; 2048];
+    let mut dens = [1u32; 2048];
     let l = arguments::list(a);
     let m = arguments::list(b);
-    let o = intake::open_lists(table, l, m);
-    replies::multiple(lists::reductions::is_multiple_of_over(o), out)
+    let o = intake::open_lists(table, l, m, &mut nums, &mut dens);
+    replies::multiple(lists::reductions::is_multiple_of_over(o, &nums, &dens), out)
 }
 
 // ---- quantities
@@ -91,11 +101,13 @@ pub fn is_multiple_of(table: &[u8], a: &[u8], b: &[u8], out: &mut [u8]) -> Reply
 pub fn reduce(table: &[u8], quantity: &[u8], out: &mut [u8]) -> Reply
     ensures { λ r. ⌜ Replied (now (out .entry)) (spec.reduce (now (table .entry)) (now (quantity .entry))) r (now (out .exit)) ⌝ }
 {
+    let mut nums = [0i32; 2048];
+    let mut dens = [1u32; 2048];
     let q = arguments::quantity(quantity);
     let u = q.unit;
     let none = units::lists::empty();
-    let o = intake::open_lists(table, u, none);
-    replies::quantity(values::single::reduce_over(o, q), out)
+    let o = intake::open_lists(table, u, none, &mut nums, &mut dens);
+    replies::quantity(values::single::reduce_over(o, q, &nums, &dens), out)
 }
 
 pub fn negate(table: &[u8], quantity: &[u8], out: &mut [u8]) -> Reply
@@ -143,76 +155,99 @@ pub fn checked_div(table: &[u8], quantity: &[u8], other: &[u8], out: &mut [u8]) 
 pub fn checked_power(table: &[u8], quantity: &[u8], other: &[u8], out: &mut [u8]) -> Reply
     ensures { λ r. ⌜ Replied (now (out .entry)) (spec.checkedPower (now (table .entry)) (now (quantity .entry)) (now (other .entry))) r (now (out .exit)) ⌝ }
 {
+    let mut nums = [0i32; 2048];
+    let mut dens = [1u32; 2048];
     let q = arguments::quantity(quantity);
     let p = arguments::quantity(other);
     let u = q.unit;
     let w = p.unit;
-    let o = intake::open_lists(table, u, w);
-    replies::quantity(powers::checked_power_over(o, q, p), out)
+    let o = intake::open_lists(table, u, w, &mut nums, &mut dens);
+    replies::quantity(powers::checked_power_over(o, q, p, &nums, &dens), out)
 }
 
 pub fn convert_to(table: &[u8], quantity: &[u8], target: &[u8], out: &mut [u8]) -> Reply
     ensures { λ r. ⌜ Replied (now (out .entry)) (spec.convertTo (now (table .entry)) (now (quantity .entry)) (now (target .entry))) r (now (out .exit)) ⌝ }
 {
+    let mut nums = [0i32; 2048];
+    let mut dens = [1u32; 2048];
     let q = arguments::quantity(quantity);
     let l = arguments::list(target);
     let u = q.unit;
-    let o = intake::open_lists(table, u, l);
-    replies::quantity(quantities::conversions::convert_to_over(o, q), out)
+    let o = intake::open_lists(table, u, l, &mut nums, &mut dens);
+    replies::quantity(
+        quantities::conversions::convert_to_over(o, q, &nums, &dens),
+        out,
+    )
 }
 
 pub fn add(table: &[u8], quantity: &[u8], other: &[u8], out: &mut [u8]) -> Reply
     ensures { λ r. ⌜ Replied (now (out .entry)) (spec.add (now (table .entry)) (now (quantity .entry)) (now (other .entry))) r (now (out .exit)) ⌝ }
 {
+    let mut nums = [0i32; 2048];
+    let mut dens = [1u32; 2048];
     let q = arguments::quantity(quantity);
     let p = arguments::quantity(other);
     let u = q.unit;
     let w = p.unit;
-    let o = intake::open_lists(table, u, w);
-    replies::quantity(sums::add_over(o, q, p), out)
+    let o = intake::open_lists(table, u, w, &mut nums, &mut dens);
+    replies::quantity(sums::add_over(o, q, p, &nums, &dens), out)
 }
 
 pub fn subtract(table: &[u8], quantity: &[u8], other: &[u8], out: &mut [u8]) -> Reply
     ensures { λ r. ⌜ Replied (now (out .entry)) (spec.subtract (now (table .entry)) (now (quantity .entry)) (now (other .entry))) r (now (out .exit)) ⌝ }
 {
+    let mut nums = [0i32; 2048];
+    let mut dens = [1u32; 2048];
     let q = arguments::quantity(quantity);
     let p = arguments::quantity(other);
     let u = q.unit;
     let w = p.unit;
-    let o = intake::open_lists(table, u, w);
-    replies::quantity(sums::subtract_over(o, q, p), out)
+    let o = intake::open_lists(table, u, w, &mut nums, &mut dens);
+    replies::quantity(sums::subtract_over(o, q, p, &nums, &dens), out)
 }
 
 pub fn equal(table: &[u8], quantity: &[u8], other: &[u8], out: &mut [u8]) -> Reply
     ensures { λ r. ⌜ Replied (now (out .entry)) (spec.equal (now (table .entry)) (now (quantity .entry)) (now (other .entry))) r (now (out .exit)) ⌝ }
 {
+    let mut nums = [0i32; 2048];
+    let mut dens = [1u32; 2048];
     let q = arguments::quantity(quantity);
     let p = arguments::quantity(other);
     let u = q.unit;
     let w = p.unit;
-    let o = intake::open_lists(table, u, w);
-    replies::verdict(quantities::comparisons::equal_over(o, q, p), out)
+    let o = intake::open_lists(table, u, w, &mut nums, &mut dens);
+    replies::verdict(
+        quantities::comparisons::equal_over(o, q, p, &nums, &dens),
+        out,
+    )
 }
 
 pub fn compare(table: &[u8], quantity: &[u8], other: &[u8], out: &mut [u8]) -> Reply
     ensures { λ r. ⌜ Replied (now (out .entry)) (spec.compare (now (table .entry)) (now (quantity .entry)) (now (other .entry))) r (now (out .exit)) ⌝ }
 {
+    let mut nums = [0i32; 2048];
+    let mut dens = [1u32; 2048];
     let q = arguments::quantity(quantity);
     let p = arguments::quantity(other);
     let u = q.unit;
     let w = p.unit;
-    let o = intake::open_lists(table, u, w);
-    replies::order(quantities::comparisons::compare_over(o, q, p), out)
+    let o = intake::open_lists(table, u, w, &mut nums, &mut dens);
+    replies::order(
+        quantities::comparisons::compare_over(o, q, p, &nums, &dens),
+        out,
+    )
 }
 
 pub fn full_simplify(table: &[u8], quantity: &[u8], out: &mut [u8]) -> Reply
     ensures { λ r. ⌜ Replied (now (out .entry)) (spec.fullSimplify (now (table .entry)) (now (quantity .entry))) r (now (out .exit)) ⌝ }
 {
+    let mut nums = [0i32; 2048];
+    let mut dens = [1u32; 2048];
     let q = arguments::quantity(quantity);
     let u = q.unit;
     let none = units::lists::empty();
-    let o = intake::open_lists(table, u, none);
-    replies::quantity(simplification::full_simplify_over(o, q), out)
+    let o = intake::open_lists(table, u, none, &mut nums, &mut dens);
+    replies::quantity(simplification::full_simplify_over(o, q, &nums, &dens), out)
 }
 
 pub fn full_simplify_with(table: &[u8], quantity: &[u8], candidates: &[u8], out: &mut [u8]) -> Reply

@@ -1,17 +1,21 @@
 -- Lists resolved, as the code does it: a factor with what is known of its row, and a list packed one factor after the other.
 use mathlib.Core.Path.{_≡_, refl, sym, _∙_, ap, ap₂}
+use mathlib.Core.Bool.{Bool, false}
 use mathlib.Core.List.{List, [], _∷_, _++_, map, map-append}
 use Prim.Native.Nat.{ℕ, _+_, _-_, _<_}
 use native.Mathlib.Omega.{arith}
 use native.Mathlib.Numerals.{add-one}
 use lib.IntN.{ℤ}
+use lib.Ieee.{Float}
 use lib.ListN.{length, take, drop, set, getD, replicate, length-map, length-append}
 use lib.Seq.{take-suc, length-take-le, getD-take, getD-drop}
+use Rattle.floats.specs.Power.{one}
 use Rattle.units.specs.declared.Factor.{Factor}
 use Rattle.units.specs.declared.Factors.{Factors}
 use Rattle.units.specs.Lists.{noFactor, listOf}
 use Rattle.units.proofs.Laws.{stored}
-use Rattle.tables.specs.Rows.{Facts, nobody, knownOf, scaleAt}
+use Rattle.tables.specs.Rows.{Facts, nobody, scaleAt}
+use Rattle.tables.specs.Pages.{Sized, Basic}
 use Rattle.tables.specs.Items.{View, viewOf, itemOf, noItem, packItems, packed}
 use Rattle.tables.proofs.Terms.{get-any}
 use Rattle.resolution.specs.Resolve.{Named, countOf, itemBy, noItems}
@@ -57,13 +61,15 @@ module _ {ks : List Facts} {fs : List Factor} {n : ℕ} {rows : List ℕ} {keys 
       ∙ row-any fs (s + i) noFactor d (omega (arith, g .few))
       ∙ ap (λ (f : Factor). f .row) (sym (sym (getD-take (l .len) (l .at) i d h) ∙ ap (λ m. getD m i d) part ∙ getD-take (l .len) (drop s fs) i d h ∙ getD-drop s fs i d))
 
-  pub row-there : getD rows (s + i) 0 < length ks
+  row-there : getD rows (s + i) 0 < length ks
   row-there = rw (g .row (s + i) k) (g .known (s + i) k)
 
-  pub item-of : (d : Factor) (c : Count) (x : Item) → c ≡ countOf ks fs (getD rows (s + i) 0) → x ≡ itemBy (knownOf (getD ks (getD rows (s + i) 0) nobody)) (getD (l .at) i d) c → x ≡ itemOf (viewOf ks fs) (getD (listOf l) i d)
-  unfolding knownOf scaleAt
-  item-of d c x e q =
+  pub item-of : (d : Factor) (c : Count) (x : Item) → c ≡ countOf ks fs (getD rows (s + i) 0) → (scales : List Float) → Sized ks scales → (based : List Bool) → Basic ks based
+      → x ≡ itemBy (getD scales (getD rows (s + i) 0) one) (getD based (getD rows (s + i) 0) false) (getD (l .at) i d) c → x ≡ itemOf (viewOf ks fs) (getD (listOf l) i d)
+  unfolding scaleAt
+  item-of d c x e scales sized based basic q =
       q
-      ∙ ap (itemBy (knownOf (getD ks (getD rows (s + i) 0) nobody)) (getD (l .at) i d)) e
-      ∙ ap (λ r. itemBy (knownOf (getD ks r nobody)) (getD (l .at) i d) (countOf ks fs r)) (row-of d)
+      ∙ ap₂ (λ (scale : Float) (base : Bool). itemBy scale base (getD (l .at) i d) c) (sized _ row-there) (basic _ row-there)
+      ∙ ap (itemBy (scaleAt ks (getD rows (s + i) 0)) (getD ks (getD rows (s + i) 0) nobody .base) (getD (l .at) i d)) e
+      ∙ ap (λ r. itemBy (scaleAt ks r) (getD ks r nobody .base) (getD (l .at) i d) (countOf ks fs r)) (row-of d)
       ∙ ap (itemOf (viewOf ks fs)) (sym (getD-take (l .len) (l .at) i d h))

@@ -1,8 +1,10 @@
 -- Two lists resolved against an admitted table (01, "The refusals", "Canonical form"): what is answered, and how code counts what comes before a factor.
 use mathlib.Core.Path.{_≡_}
+use mathlib.Core.Bool.{Bool}
 use mathlib.Core.List.{List, [], _++_}
 use Prim.Native.Nat.{ℕ, _-_, _*_, _≤_, _<_, Ordering}
 use lib.IntN.{ℤ, pos}
+use lib.Ieee.{Float}
 use lib.ListN.{length, getD, replicate}
 use Rattle.exponents.specs.Outcome.{Outcome, given, refused, number}
 use Rattle.units.specs.declared.Factor.{Factor}
@@ -11,7 +13,6 @@ use Rattle.tables.specs.Orders.{then, keyAt}
 use Rattle.tables.specs.Key.{key}
 use Rattle.tables.specs.Rows.{Facts, nobody}
 use Rattle.tables.specs.Items.{isLess, tally, before, keyOrder, rowOrder, viewOf, packItems, packed}
-use Rattle.tables.specs.declared.Known.{Known}
 use Rattle.tables.specs.declared.Item.{Item}
 use Rattle.tables.specs.declared.Items.{Items}
 use Rattle.resolution.specs.declared.Count.{Count}
@@ -59,5 +60,5 @@ countBy c k rest = record { place = tally (isLess (then k rest)) (c .place); cla
 abbrev pub countOf : List Facts → List Factor → ℕ → Count
 countOf ks l r = record { place = before (rowOrder ks) l r; class = before (keyOrder ks) l r }
 
-abbrev pub itemBy : Known → Factor → Count → Item
-itemBy k f c = record { exps = k .exps; factor = f; scale = k .scale; place = c .place; class = c .class; base = k .base }
+abbrev pub itemBy : Float → Bool → Factor → Count → Item
+itemBy scale base f c = record { factor = f; scale = scale; place = c .place; class = c .class; base = base }

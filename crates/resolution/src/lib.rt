@@ -1,17 +1,19 @@
 // Two lists checked against an admitted table, and each factor handed out with what is known of its row (01, "The refusals", "Canonical form").
 // Public: `resolve`. Nothing above it sees the table.
 ghost use mathlib.Core.Path.{_≡_};
+ghost use mathlib.Core.Bool.{false};
 ghost use mathlib.Core.List.{List};
 ghost use Prim.Native.Nat.{_+_, _≤_, _<_, compare, Ordering};
 ghost use lib.ListN.{length, getD, take, drop};
 ghost use lib.Seq.{sets};
+ghost use Rattle.floats.specs.Power.{one};
 ghost use Rattle.units.specs.declared.Factor.{Factor as Factorᵛ};
 ghost use Rattle.units.specs.Lists.{both, listOf};
 ghost use Rattle.tables.specs.Orders.{then, senseOf};
-ghost use Rattle.tables.specs.Rows.{Facts, nobody, knownOf};
-ghost use Rattle.tables.specs.Pages.{Room, Paged, Ranked};
+ghost use Rattle.tables.specs.Rows.{Facts};
+ghost use Rattle.tables.specs.Pages.{Room, Paged, Sized, Ranked, Basic};
 ghost use Rattle.tables.specs.Items.{isLess, viewOf, packItems};
-ghost use Rattle.resolution.specs.Resolve.{Named, Within, countBy, countOf, itemBy, unresolved, Keyed, resolvedOf};
+ghost use Rattle.resolution.specs.Resolve.{noItems, Named, Within, countBy, countOf, itemBy, unresolved, Keyed, resolvedOf};
 use exponents::refusals::TABLE;
 use tables::Item;
 use tables::Items;
@@ -87,10 +89,9 @@ fn count_of(keys: &[i64], named: &[u32], ranks: &[u16], i: usize, n: usize) -> C
 
 // ---- a list
 
-fn refused(refusal: u32) -> Resolved
-    ensures { λ r. ⌜ r ≡ unresolved refusal ⌝ }
+fn refused(refusal: u32, none: Items) -> Resolved
+    ensures { λ r. ⌜ (none ≡ noItems → r ≡ unresolved refusal) ⌝ }
 {
-    let none = tables::no_items();
     Resolved {
         a: none,
         b: none,
@@ -99,28 +100,16 @@ fn refused(refusal: u32) -> Resolved
 }
 
 // A factor with what is known of its row, r.
-fn item(
-    nums: &[i32],
-    dens: &[u32],
-    scales: &[f64],
-    ranks: &[u16],
-    based: &[bool],
-    r: usize,
-    f: Factor,
-    c: Count,
-) -> Item
-    requires { ⌜ (r < 128) × Room (now nums) (now dens) (now scales) (now ranks) (now based) ⌝ }
-    ensures { λ x. ⌜ ((ks : List Facts) → Paged ks (now (nums .entry)) (now (dens .entry)) (now (scales .entry)) (now (ranks .entry)) (now (based .entry)) → r < length ks → x ≡ itemBy (knownOf (getD ks r nobody)) f c) ⌝ }
+fn item(scales: &[f64], based: &[bool], r: usize, f: Factor, c: Count) -> Item
+    requires { ⌜ (r < length (now scales)) × (r < length (now based)) ⌝ }
+    ensures { λ x. ⌜ x ≡ itemBy (getD (now (scales .entry)) r one) (getD (now (based .entry)) r false) f c ⌝ }
 {
-    let k = pages::known_at(nums, dens, scales, ranks, based, r);
-    let e = k.exps;
     Item {
-        exps: e,
         factor: f,
-        scale: k.scale,
+        scale: scales[r],
         place: c.place,
         class: c.class,
-        base: k.base,
+        base: based[r],
     }
 }
 
@@ -131,23 +120,22 @@ fn items(
     n: usize,
     keys: &[i64],
     named: &[u32],
-    nums: &[i32],
-    dens: &[u32],
     scales: &[f64],
     ranks: &[u16],
     based: &[bool],
+    none: Items,
 ) -> Items
-    requires { ⌜ (l .len ≤ 16) × (from + l .len ≤ n) × (n ≤ 32) × (length (now keys) ≡ 512) × (length (now named) ≡ 32) × Within n (now named) × Room (now nums) (now dens) (now scales) (now ranks) (now based) ⌝ }
-    ensures { λ r. ⌜ ((ks : List Facts) (fs : List Factorᵛ) → Named ks fs n (now (named .entry)) (now (keys .entry)) → n ≡ length fs → listOf l ≡ take (l .len) (drop from fs) → Paged ks (now (nums .entry)) (now (dens .entry)) (now (scales .entry)) (now (ranks .entry)) (now (based .entry)) → r ≡ packItems (viewOf ks fs) (listOf l)) ⌝ }
+    requires { ⌜ (l .len ≤ 16) × (from + l .len ≤ n) × (n ≤ 32) × (length (now keys) ≡ 512) × (length (now named) ≡ 32) × Within n (now named) × (length (now scales) ≡ 128) × (length (now ranks) ≡ 128) × (length (now based) ≡ 128) ⌝ }
+    ensures { λ r. ⌜ (none ≡ noItems → (ks : List Facts) (fs : List Factorᵛ) → Named ks fs n (now (named .entry)) (now (keys .entry)) → n ≡ length fs → listOf l ≡ take (l .len) (drop from fs) → Sized ks (now (scales .entry)) → Ranked ks (now (ranks .entry)) → Basic ks (now (based .entry)) → r ≡ packItems (viewOf ks fs) (listOf l)) ⌝ }
 {
-    let mut o = tables::no_items();
+    let mut o = none;
     let m = l.len;
     let mut i: usize = 0;
     while i < m {
         let f = l.at[i];
         let c = count_of(keys, named, ranks, from + i, n);
         let r = named[from + i];
-        o.at[i] = item(nums, dens, scales, ranks, based, r as usize, f, c);
+        o.at[i] = item(scales, based, r as usize, f, c);
         o.len = i + 1;
         i += 1;
     }
@@ -176,16 +164,17 @@ pub fn resolve(
     based: &[bool],
     a: Factors,
     b: Factors,
+    none: Items,
 ) -> Resolved
     requires { ⌜ Room (now nums) (now dens) (now scales) (now ranks) (now based) ⌝ }
-    ensures { λ r. ⌜ ((ks : List Facts) → len ≡ length ks → Paged ks (now (nums .entry)) (now (dens .entry)) (now (scales .entry)) (now (ranks .entry)) (now (based .entry)) → Keyed ks → r ≡ resolvedOf ks (both (length ks) a b)) ⌝ }
+    ensures { λ r. ⌜ (none ≡ noItems → (ks : List Facts) → len ≡ length ks → Paged ks (now (nums .entry)) (now (dens .entry)) (now (scales .entry)) (now (ranks .entry)) (now (based .entry)) → Keyed ks → r ≡ resolvedOf ks (both (length ks) a b)) ⌝ }
 {
     if 128 < len {
-        return refused(TABLE);
+        return refused(TABLE, none);
     }
     let p = units::lists::pair_fault(len, a, b);
     if p != 0 {
-        return refused(p);
+        return refused(p, none);
     }
     let n = a.len;
     let m = n + b.len;
@@ -197,15 +186,15 @@ pub fn resolve(
         let e = pages::exps_at(nums, dens, (f.row as usize) * 16);
         let q = tables::keys::key_of(e);
         if q.refusal != 0 {
-            return refused(q.refusal);
+            return refused(q.refusal, none);
         }
         let k = q.nums;
         named[i] = f.row;
         put_key(&mut keys, i * 16, k);
         i += 1;
     }
-    let x = items(a, 0, m, &keys, &named, nums, dens, scales, ranks, based);
-    let y = items(b, n, m, &keys, &named, nums, dens, scales, ranks, based);
+    let x = items(a, 0, m, &keys, &named, scales, ranks, based, none);
+    let y = items(b, n, m, &keys, &named, scales, ranks, based, none);
     Resolved {
         a: x,
         b: y,

@@ -6,3 +6,4 @@ pub mod Viewed
 pub mod Agreed
 pub mod NeverUnits
 pub mod Kept
+pub mod Lending

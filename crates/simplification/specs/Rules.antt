@@ -3,6 +3,7 @@ use mathlib.Core.Bool.{Bool}
 use mathlib.Core.List.{List}
 use Prim.Native.Nat.{ℕ, Ordering}
 use lib.Dec.{eqb}
+use lib.IntN.{ℤ}
 use lib.Ieee.{Float}
 use lib.ListN.{getD}
 use Rattle.exponents.specs.Outcome.{Outcome}
@@ -12,11 +13,12 @@ use Rattle.units.specs.declared.Rows.{Rows}
 use Rattle.tables.specs.Key.{first}
 use Rattle.tables.specs.Scale.{binary64, sizeBy}
 use Rattle.tables.specs.Rows.{Facts, nobody, scaleAt}
-use Rattle.tables.specs.Items.{View, viewBases, keyOrder}
+use Rattle.tables.specs.Items.{View, Lent, viewBases, keyOrder}
 use Rattle.canonical.specs.Order.{Atom, orderIn, byPlace}
 use Rattle.canonical.specs.Canonical.{isEq}
 use Rattle.lists.specs.Calls.{basesIn}
 use Rattle.conversion.specs.Conversion.{convert}
+use Rattle.targets.specs.Firsts.{Short}
 
 pub record Rules : Type 0 where
   -- the order of factors
@@ -53,6 +55,10 @@ rulesBy v n = record {
   isBase = v .base;
   lead = λ r. first (v .exps r);
 }
+
+-- the arrays tell what a view has of its rows' base exponents
+abbrev pub Lends : View → List ℤ → List ℕ → Type 0
+Lends v nums dens = Lent v nums dens × Short v
 
 abbrev pub convertBy : Rules → List Factor → List Factor → Float → Outcome Float
 convertBy R = convert (R .order) (R .bases) binary64 (R .size)

@@ -11,7 +11,7 @@ ghost use Rattle.floats.specs.Power.{one};
 ghost use Rattle.tables.specs.Items.{View, packItems, packed};
 ghost use Rattle.targets.specs.Groups.{leading};
 ghost use Rattle.values.specs.Quantities.{answeredOf};
-ghost use Rattle.simplification.specs.Rules.{rulesBy};
+ghost use Rattle.simplification.specs.Rules.{rulesBy, Lends};
 ghost use Rattle.simplification.specs.Steps as spec;
 ghost use Rattle.simplification.specs.Steps.{quantityOf, goOn, progressOf};
 use canonical::form;
@@ -49,19 +49,19 @@ fn stopped(next: usize, refusal: u32) -> Progress
 }
 
 // One group more, the one that starts at `next`: its target, then its conversion.
-fn with_group(p: Progress, c: Items, n: usize) -> Progress
+fn with_group(p: Progress, c: Items, n: usize, nums: &[i32], dens: &[u32]) -> Progress
     requires { ⌜ p .next < 16 ⌝ }
-    ensures { λ r. ⌜ ((p .next < r .next) × (r .next ≤ 32)) × ((v : View) (us cs gs : List Factorᵛ) → p .unit ≡ packItems v us → c ≡ packItems v cs → gs ≡ leading (rulesBy v n .alike) (drop (p .next) cs) → length us ≤ p .next → length cs ≤ 16 → p .next < length cs → n ≤ 16 → some factorFault cs ≡ false → r ≡ progressOf v (p .next + length gs) (spec.grown (rulesBy v n) (p .factor) us gs)) ⌝ }
+    ensures { λ r. ⌜ ((p .next < r .next) × (r .next ≤ 32)) × ((v : View) → Lends v (now (nums .entry)) (now (dens .entry)) → (us cs gs : List Factorᵛ) → p .unit ≡ packItems v us → c ≡ packItems v cs → gs ≡ leading (rulesBy v n .alike) (drop (p .next) cs) → length us ≤ p .next → length cs ≤ 16 → p .next < length cs → n ≤ 16 → some factorFault cs ≡ false → r ≡ progressOf v (p .next + length gs) (spec.grown (rulesBy v n) (p .factor) us gs)) ⌝ }
 {
     let i = p.next;
     let g = groups::group_at(c, i);
     let end = i + g.len;
-    let t = groups::target_of(g, n);
+    let t = groups::target_of(g, n, nums, dens);
     if t.refusal != 0 {
         return stopped(end, t.refusal);
     }
     let m = t.list;
-    let y = convert::convert(1.0, g, m, n);
+    let y = convert::convert(1.0, g, m, n, nums, dens);
     let Converted::Value(z) = y else {
         return stopped(end, convert::refusal_of(y));
     };
@@ -76,8 +76,8 @@ fn with_group(p: Progress, c: Items, n: usize) -> Progress
 }
 
 // x of the canonical list c, group by group.
-fn by_groups(refusal: u32, x: f64, c: Items, n: usize) -> Answer
-    ensures { λ r. ⌜ ((why : Refusal) (v : View) (cs : List Factorᵛ) → refusal ≡ number why → c ≡ packItems v cs → length cs ≤ 16 → n ≤ 16 → some factorFault cs ≡ false → r ≡ answeredOf (map quantityOf (goOn why (spec.byGroups (rulesBy v n) x cs)))) ⌝ }
+fn by_groups(refusal: u32, x: f64, c: Items, n: usize, nums: &[i32], dens: &[u32]) -> Answer
+    ensures { λ r. ⌜ ((why : Refusal) (v : View) → Lends v (now (nums .entry)) (now (dens .entry)) → (cs : List Factorᵛ) → refusal ≡ number why → c ≡ packItems v cs → length cs ≤ 16 → n ≤ 16 → some factorFault cs ≡ false → r ≡ answeredOf (map quantityOf (goOn why (spec.byGroups (rulesBy v n) x cs)))) ⌝ }
 {
     if refusal != UNITS {
         return answers::refused(refusal);
@@ -85,7 +85,7 @@ fn by_groups(refusal: u32, x: f64, c: Items, n: usize) -> Answer
     let m = bases::capped(c.len);
     let mut p = stopped(0, 0);
     while p.next < m {
-        p = with_group(p, c, n);
+        p = with_group(p, c, n, nums, dens);
         if p.refusal != 0 {
             return answers::refused(p.refusal);
         }
@@ -103,23 +103,23 @@ fn by_groups(refusal: u32, x: f64, c: Items, n: usize) -> Answer
 // ---- second step
 
 // x of the list l, whose canonical form is c, to the one factor of t; to the groups of c where t is empty.
-fn toward(x: f64, l: Items, t: Items, c: Items, n: usize) -> Answer
-    ensures { λ r. ⌜ ((v : View) (fs ms cs : List Factorᵛ) → l ≡ packItems v fs → t ≡ packItems v ms → c ≡ packItems v cs → length fs ≤ 16 → length ms ≤ 16 → length cs ≤ 16 → n ≤ 16 → some factorFault fs ≡ false → some factorFault ms ≡ false → some factorFault cs ≡ false → r ≡ answeredOf (map quantityOf (spec.toward (rulesBy v n) x fs ms (spec.byGroups (rulesBy v n) x cs)))) ⌝ }
+fn toward(x: f64, l: Items, t: Items, c: Items, n: usize, nums: &[i32], dens: &[u32]) -> Answer
+    ensures { λ r. ⌜ ((v : View) → Lends v (now (nums .entry)) (now (dens .entry)) → (fs ms cs : List Factorᵛ) → l ≡ packItems v fs → t ≡ packItems v ms → c ≡ packItems v cs → length fs ≤ 16 → length ms ≤ 16 → length cs ≤ 16 → n ≤ 16 → some factorFault fs ≡ false → some factorFault ms ≡ false → some factorFault cs ≡ false → r ≡ answeredOf (map quantityOf (spec.toward (rulesBy v n) x fs ms (spec.byGroups (rulesBy v n) x cs)))) ⌝ }
 {
     if t.len == 0 {
-        return by_groups(UNITS, x, c, n);
+        return by_groups(UNITS, x, c, n, nums, dens);
     }
-    let y = convert::convert(x, l, t, n);
+    let y = convert::convert(x, l, t, n, nums, dens);
     let Converted::Value(z) = y else {
-        return by_groups(convert::refusal_of(y), x, c, n);
+        return by_groups(convert::refusal_of(y), x, c, n, nums, dens);
     };
     let u = lists::opening::factors_of(t);
     answers::with_mark(z, u, true)
 }
 
 // What follows the conversion to scalar.
-fn further(refusal: u32, x: f64, l: Items, n: usize) -> Answer
-    ensures { λ r. ⌜ ((why : Refusal) (v : View) (fs : List Factorᵛ) → refusal ≡ number why → l ≡ packItems v fs → length fs ≤ 16 → n ≤ 16 → some factorFault fs ≡ false → r ≡ answeredOf (map quantityOf (goOn why (spec.further (rulesBy v n) x fs)))) ⌝ }
+fn further(refusal: u32, x: f64, l: Items, n: usize, nums: &[i32], dens: &[u32]) -> Answer
+    ensures { λ r. ⌜ ((why : Refusal) (v : View) → Lends v (now (nums .entry)) (now (dens .entry)) → (fs : List Factorᵛ) → refusal ≡ number why → l ≡ packItems v fs → length fs ≤ 16 → n ≤ 16 → some factorFault fs ≡ false → r ≡ answeredOf (map quantityOf (goOn why (spec.further (rulesBy v n) x fs)))) ⌝ }
 {
     if refusal != UNITS {
         return answers::refused(refusal);
@@ -130,31 +130,31 @@ fn further(refusal: u32, x: f64, l: Items, n: usize) -> Answer
     }
     let c = f.list;
     if c.len < 2 {
-        return by_groups(UNITS, x, c, n);
+        return by_groups(UNITS, x, c, n, nums, dens);
     }
-    let b = bases::base_of(c, n);
+    let b = bases::base_of(c, n, nums, dens);
     if b.refusal != 0 {
         return answers::refused(b.refusal);
     }
     let e = b.at;
-    let s = single::first_multiple(c, e, n);
+    let s = single::first_multiple(c, e, n, nums, dens);
     if s.refusal != 0 {
         return answers::refused(s.refusal);
     }
     let t = s.list;
-    toward(x, l, t, c, n)
+    toward(x, l, t, c, n, nums, dens)
 }
 
 // ---- first step
 
 // x of the list l, where the mark permits simplifying and there are n base rows.
-pub fn simplified(x: f64, l: Items, n: usize) -> Answer
-    ensures { λ r. ⌜ ((v : View) (fs : List Factorᵛ) → l ≡ packItems v fs → length fs ≤ 16 → n ≤ 16 → some factorFault fs ≡ false → r ≡ answeredOf (map quantityOf (spec.simplify (rulesBy v n) x fs))) ⌝ }
+pub fn simplified(x: f64, l: Items, n: usize, nums: &[i32], dens: &[u32]) -> Answer
+    ensures { λ r. ⌜ ((v : View) → Lends v (now (nums .entry)) (now (dens .entry)) → (fs : List Factorᵛ) → l ≡ packItems v fs → length fs ≤ 16 → n ≤ 16 → some factorFault fs ≡ false → r ≡ answeredOf (map quantityOf (spec.simplify (rulesBy v n) x fs))) ⌝ }
 {
     let scalar = tables::no_items();
-    let y = convert::convert(x, l, scalar, n);
+    let y = convert::convert(x, l, scalar, n, nums, dens);
     let Converted::Value(z) = y else {
-        return further(convert::refusal_of(y), x, l, n);
+        return further(convert::refusal_of(y), x, l, n, nums, dens);
     };
     let u = units::lists::empty();
     answers::with_mark(z, u, true)

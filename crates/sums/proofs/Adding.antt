@@ -3,6 +3,7 @@ use mathlib.Core.Path.{_≡_, refl, sym, ap, ap₂, _∙_, subst}
 use mathlib.Core.Bool.{Bool, true, false}
 use mathlib.Core.List.{List}
 use Prim.Native.Nat.{ℕ, _≤_, Ordering}
+use lib.IntN.{ℤ}
 use lib.Ieee.{Float}
 use lib.ListN.{length}
 use Rattle.exponents.specs.Outcome.{Outcome, given, refused, map, bind}
@@ -18,7 +19,7 @@ use Rattle.units.specs.Lists.{some, factorFault}
 use Rattle.tables.specs.declared.Items.{Items}
 use Rattle.tables.specs.Scale.{sizeBy}
 use Rattle.tables.specs.Rows.{pick, Facts, scaleAt}
-use Rattle.tables.specs.Items.{View, viewBases, packItems}
+use Rattle.tables.specs.Items.{View, Lent, viewBases, packItems}
 use Rattle.canonical.specs.Order.{Atom, orderIn, byPlace}
 use Rattle.canonical.specs.Equality.{equal, verdictOf}
 use Rattle.canonical.specs.declared.equality.Verdict.{Verdict}
@@ -27,7 +28,7 @@ use Rattle.canonical.proofs.Agree.{Atoms, bind-agrees}
 use Rattle.reduction.specs.Reduction.{smallerUnit, smallerOf}
 use Rattle.reduction.specs.declared.reduce.Smaller.{Smaller}
 use Rattle.reduction.specs.declared.reduce.Smaller.the-variants as smaller
-use Rattle.lists.specs.Opening.{baseRows, opening, openedOf}
+use Rattle.lists.specs.Opening.{Tells, baseRows, opening, openedOf}
 use Rattle.lists.specs.Calls.{basesIn}
 use Rattle.lists.specs.declared.opening.Opened.{Opened}
 use Rattle.lists.proofs.Views.{equal-agrees}
@@ -35,7 +36,7 @@ use Rattle.values.specs.Quantities.{made, fresh, answeredOf}
 use Rattle.sums.specs.Sums.{combined, together, nonzeroSum}
 use Rattle.sums.specs.Calls.{summed}
 use Rattle.values.specs.declared.answers.Answer.{Answer}
-use Rattle.quantities.proofs.Ready.{Ready, stopped, seen, Own, firsts, seconds, goes, in-table}
+use Rattle.quantities.proofs.Ready.{Ready, stopped, seen, lent, Own, firsts, seconds, goes, in-table}
 
 -- ---- what equality, as code has it, tells of its outcome
 abbrev Judges : Outcome Bool → Verdict → Type 0
@@ -109,8 +110,8 @@ module _ {t : Rows} {a b : Factors} {x : Opened} (r : Ready t a b x) (minus : Bo
       (equal-agrees (r .ks) (r .fs) (r .gs)) lesser-agrees
 
 -- what code promises of the sum of nonzero values
-abbrev Adds : Bool → Float → Float → Items → Items → ℕ → Answer → Type 0
-Adds minus y z a b n o = (v : View) (fs gs : List Factor) → a ≡ packItems v fs → b ≡ packItems v gs → length fs ≤ 16 → length gs ≤ 16 → n ≤ 16 → some factorFault fs ≡ false → some factorFault gs ≡ false → o ≡ answeredOf (nonzeroSum (byPlace v) (viewBases v n) (sizeBy (v .scale)) minus y z fs gs)
+abbrev Adds : List ℤ → List ℕ → Bool → Float → Float → Items → Items → ℕ → Answer → Type 0
+Adds nums dens minus y z a b n o = (v : View) → Lent v nums dens → (fs gs : List Factor) → a ≡ packItems v fs → b ≡ packItems v gs → length fs ≤ 16 → length gs ≤ 16 → n ≤ 16 → some factorFault fs ≡ false → some factorFault gs ≡ false → o ≡ answeredOf (nonzeroSum (byPlace v) (viewBases v n) (sizeBy (v .scale)) minus y z fs gs)
 
 -- ---- the sum of two quantities, as it goes on once their lists are opened
 module _ (t : Rows) (minus : Bool) (lead : List Factor → Quantity) (q p : Quantity) where
@@ -137,7 +138,7 @@ module _ (t : Rows) (minus : Bool) (lead : List Factor → Quantity) (q p : Quan
         pub second-zero : isZero (p .value) ≡ true → given (made (q .mark) (q .value) (r .fs)) ≡ summed t minus lead q p
         second-zero h = sym (sum-goes ∙ rw (e, h))
 
-        pub no-zero : (o : Answer) → isZero (p .value) ≡ false → Adds minus (q .value) (p .value) (x .a) (x .b) (x .slots .len) o → o ≡ answeredOf (summed t minus lead q p)
-        no-zero o h k =
-            k (seen r) (r .fs) (r .gs) (r .first) (r .second) (r .first-short) (r .second-short) (r .few) (r .first-shaped) (r .second-shaped)
+        pub no-zero : (nums : List ℤ) (dens : List ℕ) → Tells t nums dens → (o : Answer) → isZero (p .value) ≡ false → Adds nums dens minus (q .value) (p .value) (x .a) (x .b) (x .slots .len) o → o ≡ answeredOf (summed t minus lead q p)
+        no-zero nums dens tells o h k =
+            k (seen r) (lent r nums dens tells) (r .fs) (r .gs) (r .first) (r .second) (r .first-short) (r .second-short) (r .few) (r .first-shaped) (r .second-shaped)
             ∙ ap answeredOf (sum-agrees r minus (q .value) (p .value) ∙ sym (sum-goes ∙ rw (e, h)))

@@ -9,9 +9,9 @@ ghost use Rattle.units.specs.declared.Factor.{Factor as Factorᵛ};
 ghost use Rattle.units.specs.declared.Rows.{Rows as Rowsᵛ};
 ghost use Rattle.units.specs.Lists.{some, factorFault};
 ghost use Rattle.tables.specs.Scale.{sizeBy};
-ghost use Rattle.tables.specs.Items.{View, viewBases, packItems};
+ghost use Rattle.tables.specs.Items.{View, Lent, viewBases, packItems};
 ghost use Rattle.canonical.specs.Order.{byPlace};
-ghost use Rattle.lists.specs.Opening.{baseRows, opening, openedOf};
+ghost use Rattle.lists.specs.Opening.{Tells, baseRows, opening, openedOf};
 ghost use Rattle.values.specs.Quantities.{answeredOf};
 ghost use Rattle.sums.specs.Sums as sums;
 ghost use Rattle.sums.specs.Calls as spec;
@@ -33,14 +33,24 @@ fn combined(minus: bool, x: f64, y: f64) -> f64
 }
 
 // x of the list a and y of the list b, both converted to the list u.
-fn together(minus: bool, x: f64, y: f64, a: Items, b: Items, u: Items, n: usize) -> Answer
-    ensures { λ r. ⌜ ((v : View) (fs gs hs : List Factorᵛ) → a ≡ packItems v fs → b ≡ packItems v gs → u ≡ packItems v hs → length fs ≤ 16 → length gs ≤ 16 → length hs ≤ 16 → n ≤ 16 → some factorFault fs ≡ false → some factorFault gs ≡ false → some factorFault hs ≡ false → r ≡ answeredOf (sums.together (byPlace v) (viewBases v n) (sizeBy (v .scale)) minus x y fs gs hs)) ⌝ }
+fn together(
+    minus: bool,
+    x: f64,
+    y: f64,
+    a: Items,
+    b: Items,
+    u: Items,
+    n: usize,
+    nums: &[i32],
+    dens: &[u32],
+) -> Answer
+    ensures { λ r. ⌜ ((v : View) → Lent v (now (nums .entry)) (now (dens .entry)) → (fs gs hs : List Factorᵛ) → a ≡ packItems v fs → b ≡ packItems v gs → u ≡ packItems v hs → length fs ≤ 16 → length gs ≤ 16 → length hs ≤ 16 → n ≤ 16 → some factorFault fs ≡ false → some factorFault gs ≡ false → some factorFault hs ≡ false → r ≡ answeredOf (sums.together (byPlace v) (viewBases v n) (sizeBy (v .scale)) minus x y fs gs hs)) ⌝ }
 {
-    let c = conversion::convert::convert(x, a, u, n);
+    let c = conversion::convert::convert(x, a, u, n, nums, dens);
     let Converted::Value(p) = c else {
         return answers::refused(conversion::convert::refusal_of(c));
     };
-    let d = conversion::convert::convert(y, b, u, n);
+    let d = conversion::convert::convert(y, b, u, n, nums, dens);
     let Converted::Value(q) = d else {
         return answers::refused(conversion::convert::refusal_of(d));
     };
@@ -49,8 +59,17 @@ fn together(minus: bool, x: f64, y: f64, a: Items, b: Items, u: Items, n: usize)
 }
 
 // The same where neither value is zero: equal lists add their values; else the unit of the smaller scale is taken.
-fn nonzero_sum(minus: bool, x: f64, y: f64, a: Items, b: Items, n: usize) -> Answer
-    ensures { λ r. ⌜ ((v : View) (fs gs : List Factorᵛ) → a ≡ packItems v fs → b ≡ packItems v gs → length fs ≤ 16 → length gs ≤ 16 → n ≤ 16 → some factorFault fs ≡ false → some factorFault gs ≡ false → r ≡ answeredOf (sums.nonzeroSum (byPlace v) (viewBases v n) (sizeBy (v .scale)) minus x y fs gs)) ⌝ }
+fn nonzero_sum(
+    minus: bool,
+    x: f64,
+    y: f64,
+    a: Items,
+    b: Items,
+    n: usize,
+    nums: &[i32],
+    dens: &[u32],
+) -> Answer
+    ensures { λ r. ⌜ ((v : View) → Lent v (now (nums .entry)) (now (dens .entry)) → (fs gs : List Factorᵛ) → a ≡ packItems v fs → b ≡ packItems v gs → length fs ≤ 16 → length gs ≤ 16 → n ≤ 16 → some factorFault fs ≡ false → some factorFault gs ≡ false → r ≡ answeredOf (sums.nonzeroSum (byPlace v) (viewBases v n) (sizeBy (v .scale)) minus x y fs gs)) ⌝ }
 {
     let e = canonical::equality::equal(a, b);
     match e {
@@ -59,10 +78,10 @@ fn nonzero_sum(minus: bool, x: f64, y: f64, a: Items, b: Items, n: usize) -> Ans
             answers::with_mark(combined(minus, x, y), l, true)
         }
         Verdict::No => {
-            let w = reduction::reduce::smaller_unit(a, b, n);
+            let w = reduction::reduce::smaller_unit(a, b, n, nums, dens);
             match w {
-                Smaller::First => together(minus, x, y, a, b, a, n),
-                Smaller::Second => together(minus, x, y, a, b, b, n),
+                Smaller::First => together(minus, x, y, a, b, a, n, nums, dens),
+                Smaller::Second => together(minus, x, y, a, b, b, n, nums, dens),
                 Smaller::Refused(r) => answers::refused(r),
             }
         }
@@ -71,8 +90,8 @@ fn nonzero_sum(minus: bool, x: f64, y: f64, a: Items, b: Items, n: usize) -> Ans
 }
 
 // Over the opened table and lists.
-pub fn add_over(o: Opened, q: Quantity, p: Quantity) -> Answer
-    ensures { λ r. ⌜ ((rows : Rowsᵛ) → o ≡ openedOf (baseRows rows) (opening rows (q .unit) (p .unit)) → r ≡ answeredOf (spec.add rows q p)) ⌝ }
+pub fn add_over(o: Opened, q: Quantity, p: Quantity, nums: &[i32], dens: &[u32]) -> Answer
+    ensures { λ r. ⌜ ((rows : Rowsᵛ) → o ≡ openedOf (baseRows rows) (opening rows (q .unit) (p .unit)) → Tells rows (now (nums .entry)) (now (dens .entry)) → r ≡ answeredOf (spec.add rows q p)) ⌝ }
 {
     if o.refusal != 0 {
         return answers::refused(o.refusal);
@@ -88,21 +107,23 @@ pub fn add_over(o: Opened, q: Quantity, p: Quantity) -> Answer
         let l = lists::opening::factors_of(a);
         return answers::with_mark(q.value, l, q.mark);
     }
-    nonzero_sum(false, q.value, p.value, a, b, s.len)
+    nonzero_sum(false, q.value, p.value, a, b, s.len, nums, dens)
 }
 
 pub fn add(rows: Rows, q: Quantity, p: Quantity) -> Answer
     ensures { λ r. ⌜ r ≡ answeredOf (spec.add rows q p) ⌝ }
 {
+    let mut nums = [0i32; 2048];
+    let mut dens = [1u32; 2048];
     let u = q.unit;
     let w = p.unit;
-    let o = lists::opening::open_lists(rows, u, w);
-    add_over(o, q, p)
+    let o = lists::opening::open_lists(rows, u, w, &mut nums, &mut dens);
+    add_over(o, q, p, &nums, &dens)
 }
 
 // Zero minus a quantity is that negated, with a fresh mark. Over the opened table and lists.
-pub fn subtract_over(o: Opened, q: Quantity, p: Quantity) -> Answer
-    ensures { λ r. ⌜ ((rows : Rowsᵛ) → o ≡ openedOf (baseRows rows) (opening rows (q .unit) (p .unit)) → r ≡ answeredOf (spec.subtract rows q p)) ⌝ }
+pub fn subtract_over(o: Opened, q: Quantity, p: Quantity, nums: &[i32], dens: &[u32]) -> Answer
+    ensures { λ r. ⌜ ((rows : Rowsᵛ) → o ≡ openedOf (baseRows rows) (opening rows (q .unit) (p .unit)) → Tells rows (now (nums .entry)) (now (dens .entry)) → r ≡ answeredOf (spec.subtract rows q p)) ⌝ }
 {
     if o.refusal != 0 {
         return answers::refused(o.refusal);
@@ -118,14 +139,16 @@ pub fn subtract_over(o: Opened, q: Quantity, p: Quantity) -> Answer
         let l = lists::opening::factors_of(a);
         return answers::with_mark(q.value, l, q.mark);
     }
-    nonzero_sum(true, q.value, p.value, a, b, s.len)
+    nonzero_sum(true, q.value, p.value, a, b, s.len, nums, dens)
 }
 
 pub fn subtract(rows: Rows, q: Quantity, p: Quantity) -> Answer
     ensures { λ r. ⌜ r ≡ answeredOf (spec.subtract rows q p) ⌝ }
 {
+    let mut nums = [0i32; 2048];
+    let mut dens = [1u32; 2048];
     let u = q.unit;
     let w = p.unit;
-    let o = lists::opening::open_lists(rows, u, w);
-    subtract_over(o, q, p)
+    let o = lists::opening::open_lists(rows, u, w, &mut nums, &mut dens);
+    subtract_over(o, q, p, &nums, &dens)
 }

@@ -19,7 +19,7 @@ use Rattle.tables.specs.declared.Slot.{Slot}
 use Rattle.tables.specs.declared.Slots.{Slots}
 use Rattle.tables.specs.declared.Admitted.{Admitted}
 use Rattle.tables.specs.Rows.{pick, Facts, slots, isBase, count, counted, rowFacts, Admission, admitted, stopped, admitOn, admitFrom, rowsOf, admit, packSlots}
-use Rattle.tables.specs.Pages.{Paged, Pages, RowIn, admittedOf}
+use Rattle.tables.specs.Pages.{Blank, Paged, Pages, RowIn, admittedOf}
 use Rattle.tables.proofs.Filled as filled
 use Rattle.tables.proofs.Entering.{few}
 use Rattle.tables.proofs.Storing.{paged-none}
@@ -33,9 +33,9 @@ pub record Admitting (ss : List Slot) (rs : List Row) (bases i : ℕ) (nums : Li
   pub paged : Paged ks nums dens scales ranks based
   pub left : admitFrom ss ks (drop i rs) ≡ admitFrom ss [] rs
 
-pub admitting-none : (ss : List Slot) (rs : List Row) (nums : List ℤ) (dens : List ℕ) (scales : List Float) (ranks : List ℕ) (based : List Bool) → Admitting ss rs 0 0 nums dens scales ranks based
+pub admitting-none : (ss : List Slot) (rs : List Row) (nums : List ℤ) (dens : List ℕ) (scales : List Float) (ranks : List ℕ) (based : List Bool) → Blank 0 nums dens → Admitting ss rs 0 0 nums dens scales ranks based
 unfolding count
-admitting-none ss rs nums dens scales ranks based = record { ks = []; at = refl; bases-are = refl; few = omega arith; paged = paged-none nums dens scales ranks based; left = refl }
+admitting-none ss rs nums dens scales ranks based b = record { ks = []; at = refl; bases-are = refl; few = omega arith; paged = paged-none nums dens scales ranks based b; left = refl }
 
 -- ---- how many base rows there are with one row more
 count-more : (ks : List Facts) (k : Facts) → count (ks ++ (k ∷ [])) ≡ pick (k .base) (count ks + 1) (count ks)

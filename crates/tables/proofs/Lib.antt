@@ -12,6 +12,7 @@ pub mod Slotting
 pub mod Working
 pub mod Filled
 pub mod Storing
+pub mod Telling
 pub mod Sound
 pub mod Entering
 pub mod Admitting

@@ -1,6 +1,6 @@
 -- Sixteen places of an array: what they read as, and exponents held in two arrays, numerators and denominators apart.
 use mathlib.Core.Path.{_≡_, refl, sym, _∙_, ap, ap₂}
-use mathlib.Core.Bool.{Bool, false}
+use mathlib.Core.Bool.{Bool}
 use mathlib.Core.List.{List, [], _∷_, _++_, map}
 use Prim.Native.Nat.{ℕ, zero, suc, _+_, _-_, _*_, _<_, _≤_}
 use native.Mathlib.Numerals.{add-one}
@@ -11,10 +11,8 @@ use lib.ListN.{length, take, drop, getD, set, replicate, length-drop, length-app
 use lib.Seq.{sets, ext-getD, length-take-le, getD-take, getD-drop, take-suc, take-suc-set, take-all}
 use Rattle.exponents.specs.Fractions.{nought}
 use Rattle.exponents.specs.declared.Exponent.{Exponent}
-use Rattle.floats.specs.Power.{one}
-use Rattle.tables.specs.Rows.{Facts, nobody, expAt, scaleAt, packExps, knownOf}
+use Rattle.tables.specs.Rows.{Facts, nobody, expAt, packExps}
 use Rattle.tables.specs.Pages.{tops, bottoms, Paged}
-use Rattle.tables.specs.declared.Known.{Known}
 use Rattle.tables.proofs.Places.{rest}
 use Rattle.tables.proofs.Terms.{padded}
 
@@ -74,7 +72,3 @@ module _ (ks : List Facts) (nums : List ℤ) (dens : List ℕ) (scales : List Fl
       packed-is (getD ks r nobody .exps) e (p .short r h) n
       (λ i k. ap (λ (l : List ℤ). getD l i (pos 0)) t ∙ part-at nums (r * 16) i (pos 0) k ∙ p .filed .top r i h k)
       (λ i k. ap (λ (l : List ℕ). getD l i 1) b ∙ part-at dens (r * 16) i 1 k ∙ p .filed .bottom r i h k)
-
-  pub known-is : length e ≡ 16 → (v : Float) → v ≡ getD scales r one → _≡_ {A = Known} (record { exps = e; scale = v; rank = getD ranks r 0; base = getD based r false }) (knownOf (getD ks r nobody))
-  unfolding knownOf scaleAt
-  known-is n v s j = record { exps = known-exps n j; scale = (s ∙ p .sized r h) j; rank = p .ranked r h j; base = p .basic r h j }

@@ -14,7 +14,7 @@ use Rattle.exponents.specs.Fractions.{nought}
 use Rattle.exponents.specs.declared.Exponent.{Exponent}
 use Rattle.floats.specs.Power.{one}
 use Rattle.tables.specs.Rows.{Facts, nobody, expAt, scaleAt, packExps}
-use Rattle.tables.specs.Pages.{tops, bottoms, Room, Ranked, Paged}
+use Rattle.tables.specs.Pages.{tops, bottoms, Room, Blank, Ranked, Paged}
 use Rattle.tables.proofs.Terms.{padded}
 
 -- ---- a run of stores, read back
@@ -31,6 +31,10 @@ module _ {A : Type 0} where
   sets-at (v ∷ vs) l i (suc s) d h k =
       let e : i + suc s ≡ suc i + s = omega arith in
       rw e (sets-at vs (set l i v) (suc i) s d (simp length-set (omega arith)) (omega arith))
+
+  sets-behind : (vs l : List A) (i j : ℕ) (d : A) → i + length vs ≤ j → getD (sets l i vs) j d ≡ getD l j d
+  sets-behind [] l i j d h = refl
+  sets-behind (v ∷ vs) l i j d h = sets-behind vs (set l i v) (suc i) j d (omega arith) ∙ getD-set-other l i j v d (λ e. omega arith)
 
 -- ---- the exponents that are stored
 pub long-exps : (es : List Exponent) → length es ≤ 16 → length (packExps es) ≡ 16
@@ -81,22 +85,30 @@ module _ (ks : List Facts) (k : Facts) where
       → Paged (ks ++ (k ∷ [])) (sets nums (length ks * 16) (tops (packExps (k .exps)))) (sets dens (length ks * 16) (bottoms (packExps (k .exps))))
       (set scales (length ks) (k .scale)) (set ranks (length ks) (k .rank)) (set based (length ks) (k .base))
   unfolding expAt scaleAt
-  paged-more nums dens scales ranks based (ln, ld, ls, lr, lb) p room few = record {
-    short = each-more (λ r x. length (x .exps) ≤ 16) (p .short) few;
-    filed = record {
-      top = λ r s h t. run-more (λ x s. getD (x .exps) s nought .num) nums (tops (packExps (k .exps))) (pos 0) (omega arith) (length-map (packExps (k .exps)) _ ∙ long-exps (k .exps) few) (p .filed .top) (λ s t. top-at (k .exps) s t) r h s t;
-      bottom = λ r s h t. run-more (λ x s. getD (x .exps) s nought .den) dens (bottoms (packExps (k .exps))) 1 (omega arith) (length-map (packExps (k .exps)) _ ∙ long-exps (k .exps) few) (p .filed .bottom) (λ s t. bottom-at (k .exps) s t) r h s t;
-    };
-    sized = store-more (λ x. x .scale) scales one (omega arith) (p .sized);
-    ranked = store-more (λ x. x .rank) ranks 0 (omega arith) (p .ranked);
-    basic = store-more (λ x. x .base) based false (omega arith) (p .basic);
-  }
+  paged-more nums dens scales ranks based (ln, ld, ls, lr, lb) p room few =
+      let long-tops : length (tops (packExps (k .exps))) ≡ 16 = length-map (packExps (k .exps)) _ ∙ long-exps (k .exps) few in
+      let long-bottoms : length (bottoms (packExps (k .exps))) ≡ 16 = length-map (packExps (k .exps)) _ ∙ long-exps (k .exps) few in
+      record {
+        short = each-more (λ r x. length (x .exps) ≤ 16) (p .short) few;
+        filed = record {
+          top = λ r s h t. run-more (λ x s. getD (x .exps) s nought .num) nums (tops (packExps (k .exps))) (pos 0) (omega arith) long-tops (p .filed .top) (λ s t. top-at (k .exps) s t) r h s t;
+          bottom = λ r s h t. run-more (λ x s. getD (x .exps) s nought .den) dens (bottoms (packExps (k .exps))) 1 (omega arith) long-bottoms (p .filed .bottom) (λ s t. bottom-at (k .exps) s t) r h s t;
+        };
+        rest = record {
+          top = λ i h. sets-behind (tops (packExps (k .exps))) nums (length ks * 16) i (pos 0) (omega (arith, length-append ks (k ∷ []), long-tops)) ∙ p .rest .top i (omega (arith, length-append ks (k ∷ [])));
+          bottom = λ i h. sets-behind (bottoms (packExps (k .exps))) dens (length ks * 16) i 1 (omega (arith, length-append ks (k ∷ []), long-bottoms)) ∙ p .rest .bottom i (omega (arith, length-append ks (k ∷ [])));
+        };
+        sized = store-more (λ x. x .scale) scales one (omega arith) (p .sized);
+        ranked = store-more (λ x. x .rank) ranks 0 (omega arith) (p .ranked);
+        basic = store-more (λ x. x .base) based false (omega arith) (p .basic);
+      }
 
 -- ---- no rows
-pub paged-none : (nums : List ℤ) (dens : List ℕ) (scales : List Float) (ranks : List ℕ) (based : List Bool) → Paged [] nums dens scales ranks based
-paged-none nums dens scales ranks based = record {
+pub paged-none : (nums : List ℤ) (dens : List ℕ) (scales : List Float) (ranks : List ℕ) (based : List Bool) → Blank 0 nums dens → Paged [] nums dens scales ranks based
+paged-none nums dens scales ranks based b = record {
   short = λ r h. absurd (omega arith);
   filed = record { top = λ r s h t. absurd (omega arith); bottom = λ r s h t. absurd (omega arith) };
+  rest = b;
   sized = λ r h. absurd (omega arith);
   ranked = λ r h. absurd (omega arith);
   basic = λ r h. absurd (omega arith);

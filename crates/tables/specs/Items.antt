@@ -1,8 +1,10 @@
 -- Lists resolved against a table: each factor with what is known of its row. Nothing above sees the table.
+use mathlib.Core.Path.{_≡_}
 use mathlib.Core.Bool.{Bool, true, false}
 use mathlib.Core.List.{List, [], _∷_, _++_, map}
-use Prim.Native.Nat.{ℕ, suc, _-_, compare, Ordering, Ordering·lt, Ordering·eq, Ordering·gt}
+use Prim.Native.Nat.{ℕ, suc, _-_, _<_, compare, Ordering, Ordering·lt, Ordering·eq, Ordering·gt}
 use lib.ListN.{length, getD, replicate}
+use lib.IntN.{ℤ}
 use lib.Ieee.{Float}
 use Rattle.exponents.specs.Outcome.{number}
 use Rattle.exponents.specs.Fractions.{nought}
@@ -13,6 +15,7 @@ use Rattle.units.specs.Lists.{noFactor}
 use Rattle.tables.specs.Orders.{then, lists, pairs}
 use Rattle.tables.specs.Key.{entries}
 use Rattle.tables.specs.Rows.{Facts, nobody, scaleAt, places, packExps}
+use Rattle.tables.specs.Pages.{told}
 use Rattle.tables.specs.declared.Item.{Item}
 use Rattle.tables.specs.declared.Items.{Items}
 
@@ -33,6 +36,10 @@ viewAt v j r = getD (v .exps r) j nought
 -- the base rows, where there are n
 abbrev pub viewBases : View → ℕ → List (ℕ → Exponent)
 viewBases v n = map (viewAt v) (places 0 n)
+
+-- the arrays tell each row's base exponents
+abbrev pub Lent : View → List ℤ → List ℕ → Type 0
+Lent v nums dens = (r s : ℕ) → s < 16 → viewAt v s r ≡ told nums dens r s
 
 -- ---- the order of rows (01, "Canonical form"): key, then rank; the row's number decides only where two rows have one rank, which no admitted table has
 
@@ -69,11 +76,11 @@ viewOf ks l = record {
 -- ---- how code holds a resolved list
 
 abbrev pub itemOf : View → Factor → Item
-itemOf v f = record { exps = v .exps (f .row); factor = f; scale = v .scale (f .row); place = v .place (f .row); class = v .class (f .row); base = v .base (f .row) }
+itemOf v f = record { factor = f; scale = v .scale (f .row); place = v .place (f .row); class = v .class (f .row); base = v .base (f .row) }
 
 -- what stands past the end
 abbrev pub noItem : Item
-noItem = record { exps = replicate 16 nought; factor = noFactor; scale = one; place = 0; class = 0; base = false }
+noItem = record { factor = noFactor; scale = one; place = 0; class = 0; base = false }
 
 unfoldable pub packItems : View → List Factor → Items
 packItems v l = record { at = map (itemOf v) l ++ replicate (16 - length l) noItem; len = length l }

@@ -24,6 +24,15 @@ tops = map (λ (x : Exponent). x .num)
 abbrev pub bottoms : List Exponent → List ℕ
 bottoms = map (λ (x : Exponent). x .den)
 
+-- a row's base exponent at place s, as the two arrays tell it; zero past their ends
+unfoldable pub told : List ℤ → List ℕ → ℕ → ℕ → Exponent
+told nums dens r s = record { num = getD nums (r * 16 + s) (pos 0); den = getD dens (r * 16 + s) 1 }
+
+-- they tell zeros of the rows from n on
+pub record Blank (n : ℕ) (nums : List ℤ) (dens : List ℕ) : Type 0 where
+  pub top : (i : ℕ) → n * 16 ≤ i → getD nums i (pos 0) ≡ pos 0
+  pub bottom : (i : ℕ) → n * 16 ≤ i → getD dens i 1 ≡ 1
+
 -- the arrays' lengths
 abbrev pub Room : List ℤ → List ℕ → List Float → List ℕ → List Bool → Type 0
 Room nums dens scales ranks based = (length nums ≡ 2048) × (length dens ≡ 2048) × (length scales ≡ 128) × (length ranks ≡ 128) × (length based ≡ 128)
@@ -41,13 +50,18 @@ Sized ks scales = (r : ℕ) → r < length ks → getD scales r one ≡ scaleAt 
 abbrev pub Ranked : List Facts → List ℕ → Type 0
 Ranked ks ranks = (r : ℕ) → r < length ks → getD ranks r 0 ≡ getD ks r nobody .rank
 
+-- the fifth which are base
+abbrev pub Basic : List Facts → List Bool → Type 0
+Basic ks based = (r : ℕ) → r < length ks → getD based r false ≡ getD ks r nobody .base
+
 -- and all five what is known of them
 pub record Paged (ks : List Facts) (nums : List ℤ) (dens : List ℕ) (scales : List Float) (ranks : List ℕ) (based : List Bool) : Type 0 where
   pub short : (r : ℕ) → r < length ks → length (getD ks r nobody .exps) ≤ 16
   pub filed : Filed ks nums dens
+  pub rest : Blank (length ks) nums dens
   pub sized : Sized ks scales
   pub ranked : Ranked ks ranks
-  pub basic : (r : ℕ) → r < length ks → getD based r false ≡ getD ks r nobody .base
+  pub basic : Basic ks based
 
 -- every row that a definition names is among the rows ks
 abbrev pub Reaching : List Facts → List Factor → Type 0

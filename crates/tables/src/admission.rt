@@ -8,7 +8,7 @@ ghost use lib.ListN.{length, take};
 ghost use Rattle.units.specs.Lists.{some};
 ghost use Rattle.tables.specs.Rows as spec;
 ghost use Rattle.tables.specs.Rows.{Facts, rowsOf, defOf, packSlots, count};
-ghost use Rattle.tables.specs.Pages.{Room, Paged, Pages, RowIn, admittedOf};
+ghost use Rattle.tables.specs.Pages.{Room, Blank, Paged, Pages, RowIn, admittedOf};
 ghost use Rattle.tables.specs.declared.Slot.{Slot as Slotᵛ};
 use super::Admitted;
 use super::Slot;
@@ -169,7 +169,7 @@ pub fn admit(
     ranks: &mut [u16],
     based: &mut [bool],
 ) -> Admitted
-    requires { ⌜ Room (now nums) (now dens) (now scales) (now ranks) (now based) ⌝ }
+    requires { ⌜ Room (now nums) (now dens) (now scales) (now ranks) (now based) × Blank 0 (now nums) (now dens) ⌝ }
     ensures { λ r. ⌜ (r ≡ admittedOf (spec.slots (rowsOf rows)) (spec.admit rows)) × Room (now (nums .exit)) (now (dens .exit)) (now (scales .exit)) (now (ranks .exit)) (now (based .exit)) × Pages (spec.admit rows) (now (nums .exit)) (now (dens .exit)) (now (scales .exit)) (now (ranks .exit)) (now (based .exit)) ⌝ }
 {
     let n = rows.len;

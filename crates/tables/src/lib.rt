@@ -41,10 +41,9 @@ pub struct Admitted {
     pub refusal: u32,
 }
 
-// A factor with what is known of its row: its base exponents in the order of the slots, its scale, its place in the order
-// of rows and its key's class among the rows of the call, and whether it is base.
+// A factor with what is known of its row: its scale, its place in the order of rows and its key's class among the rows of
+// the call, and whether it is base. Its base exponents stay in the table's arrays, by the row's number: lists are copied often.
 pub struct Item {
-    pub exps: [Exponent; 16],
     pub factor: Factor,
     pub scale: f64,
     pub place: u32,
@@ -63,9 +62,7 @@ pub fn no_items() -> Items
     ensures { λ r. ⌜ r ≡ packed [] ⌝ }
 {
     let f = units::lists::no_factor();
-    let e = Exponent { num: 0, den: 1 };
     let none = Item {
-        exps: [e; 16],
         factor: f,
         scale: 1.0,
         place: 0,

@@ -6,9 +6,7 @@ ghost use Prim.Native.Nat.{_+_, _*_, _<_, _≤_};
 ghost use lib.ListN.{length, getD, take, drop};
 ghost use lib.IntN.{pos};
 ghost use lib.Seq.{sets};
-ghost use Rattle.tables.specs.Rows.{Facts, nobody, knownOf};
-ghost use Rattle.tables.specs.Pages.{tops, bottoms, Paged, Room};
-use super::Known;
+ghost use Rattle.tables.specs.Pages.{tops, bottoms, told};
 use exponents::Exponent;
 
 // The exponent at place i.
@@ -19,6 +17,34 @@ pub fn exponent_at(nums: &[i32], dens: &[u32], i: usize) -> Exponent
     Exponent {
         num: nums[i],
         den: dens[i],
+    }
+}
+
+// A denominator, 1 past the end.
+fn bottom_at(dens: &[u32], i: usize) -> u32
+    ensures { λ r. ⌜ r ≡ getD (now (dens .entry)) i 1 ⌝ }
+{
+    if i < dens.len() {
+        return dens[i];
+    }
+    1
+}
+
+// A row's exponent at place s, whatever row is asked for.
+pub fn exponent_of(nums: &[i32], dens: &[u32], row: u32, s: usize) -> Exponent
+    requires { ⌜ s < 16 ⌝ }
+    ensures { λ r. ⌜ r ≡ told (now (nums .entry)) (now (dens .entry)) row s ⌝ }
+{
+    let at = (row as usize) * 16 + s;
+    if at < nums.len() {
+        return Exponent {
+            num: nums[at],
+            den: bottom_at(dens, at),
+        };
+    }
+    Exponent {
+        num: 0,
+        den: bottom_at(dens, at),
     }
 }
 
@@ -35,27 +61,6 @@ pub fn exps_at(nums: &[i32], dens: &[u32], at: usize) -> [Exponent; 16]
         s += 1;
     }
     e
-}
-
-// What is known of row r.
-pub fn known_at(
-    nums: &[i32],
-    dens: &[u32],
-    scales: &[f64],
-    ranks: &[u16],
-    based: &[bool],
-    r: usize,
-) -> Known
-    requires { ⌜ (r < 128) × Room (now nums) (now dens) (now scales) (now ranks) (now based) ⌝ }
-    ensures { λ k. ⌜ ((ks : List Facts) → Paged ks (now (nums .entry)) (now (dens .entry)) (now (scales .entry)) (now (ranks .entry)) (now (based .entry)) → r < length ks → k ≡ knownOf (getD ks r nobody)) ⌝ }
-{
-    let e = exps_at(nums, dens, r * 16);
-    Known {
-        exps: e,
-        scale: scales[r],
-        rank: ranks[r],
-        base: based[r],
-    }
 }
 
 // Sixteen exponents put at place `at` and behind it.

@@ -1,11 +1,13 @@
 -- A group's target: the first base exponent of a row, the summed exponents, and the answer case by case.
-use mathlib.Core.Path.{_≡_, refl, sym, ap, _∙_}
+use mathlib.Core.Path.{_≡_, refl, sym, ap, ap₂, _∙_}
 use mathlib.Core.Bool.{Bool, true, false, true≢false}
 use mathlib.Core.List.{List, [], _∷_, _++_}
 use mathlib.Core.List as list
 use Prim.Native.Nat.{ℕ, zero, suc, _+_, _-_, _≤_, _<_}
+use native.Mathlib.Numerals.{add-one}
+use native.Mathlib.Omega.{arith}
 use lib.IntN.{ℤ, pos, negsuc}
-use lib.ListN.{length, drop, getD, replicate, drop-of-length-le}
+use lib.ListN.{length, drop, getD, replicate}
 use Rattle.exponents.specs.Outcome.{Outcome, given, map, bind, each}
 use Rattle.exponents.specs.Fractions.{nought, unit, sameZ, same, add?, mul?, div?, sum?, fractionOf}
 use Rattle.exponents.specs.declared.Exponent.{Exponent}
@@ -19,9 +21,9 @@ use Rattle.tables.specs.declared.Item.{Item}
 use Rattle.tables.specs.declared.Items.{Items}
 use Rattle.tables.specs.Key.{other, first}
 use Rattle.tables.specs.Lists.{baseAt, base}
-use Rattle.tables.specs.Rows.{pick, packExps}
-use Rattle.tables.specs.Items.{View, viewBases, itemOf, packItems, packed}
-use Rattle.tables.proofs.Places.{rest}
+use Rattle.tables.specs.Rows.{pick, places, packExps}
+use Rattle.tables.specs.Pages.{told}
+use Rattle.tables.specs.Items.{View, Lent, viewBases, itemOf, packItems, packed}
 use Rattle.canonical.specs.Order.{atom, of}
 use Rattle.canonical.specs.Canonical.{allNought}
 use Rattle.canonical.specs.Terms.{withFactor}
@@ -29,6 +31,7 @@ use Rattle.canonical.specs.Form.{emptyBut, formOf}
 use Rattle.canonical.specs.declared.form.Form.{Form}
 use Rattle.reduction.proofs.Compared.{packed-nought}
 use Rattle.reduction.proofs.Resolved.{nilItem, item-at}
+use Rattle.targets.specs.Firsts.{Short, firstTold}
 use Rattle.targets.specs.Groups.{share, withShare, summed, fitted, greatest, target}
 use Rattle.targets.proofs.Searching.{answer-none, answer-one, answer-refused}
 
@@ -43,21 +46,35 @@ other-not (pos zero) x r h = absurd (h refl)
 other-not (pos (suc n)) x r h = refl
 other-not (negsuc n) x r h = refl
 
-module _ (a : List Exponent) (i : ℕ) (so-far : first a ≡ first (drop i a)) where
-  module _ (x : Exponent) (h : i < length a) where
-    turn : first a ≡ other (getD a i x .num) (getD a i x) (first (drop (i + 1) a))
-    unfolding first
-    turn = so-far ∙ ap first (rest a x i h)
+-- f has the row's base exponents, by their places
+module _ (f : ℕ → Exponent) where
+  -- the first from place i on
+  abbrev pub firstFrom : ℕ → Exponent
+  firstFrom i = first (list.map f (places i (16 - i)))
 
-    pub first-on : getD a i x .num ≡ pos 0 → first a ≡ first (drop (i + 1) a)
-    first-on e = turn ∙ other-zero _ _ _ e
+  module _ (i : ℕ) (h : i < 16) where
+    turn : firstFrom i ≡ other (f i .num) (f i) (firstFrom (i + 1))
+    unfolding first places
+    turn =
+        let left : 16 - i ≡ suc (16 - (i + 1)) = omega arith in
+        ap (λ n. first (list.map f (places i n))) left ∙ ap (λ n. other (f i .num) (f i) (first (list.map f (places n (16 - (i + 1)))))) (sym (add-one i))
 
-    pub first-here : (getD a i x .num ≡ pos 0 → ⊥) → getD a i x ≡ first a
-    first-here e = sym (turn ∙ other-not _ _ _ e)
+    module _ (x : Exponent) (is : x ≡ f i) where
+      pub first-on : x .num ≡ pos 0 → firstFrom i ≡ firstFrom (i + 1)
+      first-on e = turn ∙ other-zero _ _ _ (sym (ap (λ (x : Exponent). x .num) is) ∙ e)
 
-  pub first-none : length a ≤ i → unit ≡ first a
-  unfolding first
-  first-none h = sym (so-far ∙ ap first (drop-of-length-le a h))
+      pub first-here : (x .num ≡ pos 0 → ⊥) → x ≡ firstFrom i
+      first-here e = is ∙ sym (turn ∙ other-not _ _ _ (λ z. e (ap (λ (x : Exponent). x .num) is ∙ z)))
+
+  pub first-none : (i : ℕ) → 16 ≤ i → unit ≡ firstFrom i
+  unfolding first places
+  first-none i h =
+      let left : 16 - i ≡ 0 = omega arith in
+      sym (ap (λ n. first (list.map f (places i n))) left)
+
+pub first-start : (nums : List ℤ) (dens : List ℕ) (r : ℕ) → firstTold nums dens r ≡ firstFrom (told nums dens r) 0
+unfolding firstTold
+first-start nums dens r = refl
 
 -- the zeros past the base rows make no difference
 padded-first : (k : ℕ) (es : List Exponent) → first (es ++ replicate k nought) ≡ first es
@@ -70,13 +87,34 @@ pub first-packed : (es : List Exponent) → first (packExps es) ≡ first es
 unfolding packExps
 first-packed es = padded-first (16 - length es) es
 
--- ---- what an item has in a representative, added to acc: w is the first base exponent of its row
 abbrev pub firsts : View → ℕ → Exponent
 firsts v a = first (v .exps a)
 
-module _ (v : View) (d acc : Exponent) (it : Item) (f : Factor) (e : it ≡ itemOf v f) (w : Exponent) (is : w ≡ first (it .exps)) where
-  there : mul? (it .factor .exponent) w ≡ mul? (f .exponent) (first (v .exps (f .row)))
-  there = ap (mul? (it .factor .exponent)) is ∙ ap (λ (it : Item). mul? (it .factor .exponent) (first (it .exps))) e
+-- the same place
+spot : (f : ℕ → Exponent) (m n : ℕ) → m ≡ n → f m ≡ f n
+spot f m n e = ap f e
+
+-- exponents read place by place, zeros past their end
+read-first : (f : ℕ → Exponent) (n p : ℕ) (es : List Exponent) → length es ≤ n → ((s : ℕ) → s < n → getD es s nought ≡ f (p + s)) → first (list.map f (places p n)) ≡ first es
+unfolding first other places
+read-first f zero p [] k h = refl
+read-first f zero p (e ∷ es) k h = absurd (omega arith)
+read-first f (suc n) p [] k h =
+    ap (λ (x : Exponent). other (x .num) x (first (list.map f (places (suc p) n)))) (spot f p (p + 0) (omega arith) ∙ sym (h 0 (omega arith)))
+    ∙ read-first f n (suc p) [] (omega arith) (λ s l. h (suc s) (omega arith) ∙ spot f (p + suc s) (suc p + s) (omega arith))
+read-first f (suc n) p (e ∷ es) k h =
+    ap₂ (λ (x r : Exponent). other (x .num) x r) (spot f p (p + 0) (omega arith) ∙ sym (h 0 (omega arith)))
+    (read-first f n (suc p) es (omega arith) (λ s l. h (suc s) (omega arith) ∙ spot f (p + suc s) (suc p + s) (omega arith)))
+
+-- what the arrays tell is the row's
+pub told-first : (v : View) (nums : List ℤ) (dens : List ℕ) → Lent v nums dens → Short v → (r : ℕ) → firstTold nums dens r ≡ firsts v r
+unfolding firstTold
+told-first v nums dens lent short r = read-first (told nums dens r) 16 0 (v .exps r) (short r) (λ s l. lent r s l ∙ spot (told nums dens r) s (0 + s) (omega arith))
+
+-- ---- what an item has in a representative, added to acc: w is the first base exponent of its row
+module _ (v : View) (d acc : Exponent) (it : Item) (f : Factor) (e : it ≡ itemOf v f) (w : Exponent) (is : w ≡ firsts v (it .factor .row)) where
+  there : mul? (it .factor .exponent) w ≡ mul? (f .exponent) (firsts v (f .row))
+  there = ap (mul? (it .factor .exponent)) is ∙ ap (λ (it : Item). mul? (it .factor .exponent) (firsts v (it .factor .row))) e
 
   pub share-off : (n : ℕ) → fractionOf (mul? (it .factor .exponent) w) ≡ Refused n → Refused n ≡ fractionOf (withShare (firsts v) d acc f)
   unfolding withShare share
@@ -181,12 +219,12 @@ chosen v n l (f ∷ gs) e xs x b at z p rep =
       is = item-at v l (f ∷ gs) e p nilItem f (r .0) ∙ ap (itemOf v) (r .1);
     }
 
-module _ (v : View) (n : ℕ) (fs : List Factor) (it : Item) (k : Choice v n fs it) (d : Exponent) (head : d ≡ first (it .exps)) (s : Fraction) (sum : s ≡ fractionOf (summed (firsts v) d fs)) where
+module _ (v : View) (n : ℕ) (fs : List Factor) (it : Item) (k : Choice v n fs it) (d : Exponent) (head : d ≡ firsts v (it .factor .row)) (s : Fraction) (sum : s ≡ fractionOf (summed (firsts v) d fs)) where
   abbrev total : Outcome Exponent
-  total = summed (firsts v) (first (v .exps (k .factor .row))) fs
+  total = summed (firsts v) (firsts v (k .factor .row)) fs
 
   of-factor : s ≡ fractionOf total
-  of-factor = sum ∙ ap (λ d. fractionOf (summed (firsts v) d fs)) (head ∙ ap (λ (it : Item). first (it .exps)) (k .is))
+  of-factor = sum ∙ ap (λ d. fractionOf (summed (firsts v) d fs)) (head ∙ ap (λ (it : Item). firsts v (it .factor .row)) (k .is))
 
   pub fitted-off : (m : ℕ) → s ≡ Refused m → emptyBut m ≡ formOf v (answer v n fs)
   unfolding fitted

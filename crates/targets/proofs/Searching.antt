@@ -5,6 +5,7 @@ use mathlib.Core.List.{List, [], _∷_}
 use Prim.Native.Nat.{ℕ, _+_, _≤_, _<_}
 use native.Mathlib.Omega.{arith}
 use lib.Dec.{eqb}
+use lib.IntN.{ℤ}
 use lib.ListN.{length, drop, getD, drop-of-length-le}
 use Rattle.exponents.specs.Outcome.{Outcome, given, refused, bind}
 use Rattle.exponents.specs.Fractions.{nought, unit, same, faulty, div?, fractionOf, worked}
@@ -21,7 +22,7 @@ use Rattle.tables.specs.declared.Items.{Items}
 use Rattle.tables.specs.declared.rows.Exps.{Exps}
 use Rattle.tables.specs.Lists.{base}
 use Rattle.tables.specs.Rows.{pick, packExps, expsOf}
-use Rattle.tables.specs.Items.{View, viewBases, itemOf, packItems, packed}
+use Rattle.tables.specs.Items.{View, Lent, viewBases, itemOf, packItems, packed}
 use Rattle.tables.proofs.Places.{rest}
 use Rattle.canonical.specs.Order.{atom, of}
 use Rattle.canonical.specs.Canonical.{sameAll}
@@ -110,8 +111,9 @@ module _ (a b : List Exponent) (apart : sameAll a b ≡ false) (i : ℕ) (first 
         rule = λ q p. quotient-sound _ _ q (exact-given _ q (sym divided ∙ p));
       }
 
--- ---- what the code has: the list c, and its base exponents x
-pub record Had (v : View) (n : ℕ) (c : Items) (x : List Exponent) (cs : List Factor) (xs : List Exponent) : Type 0 where
+-- ---- what the code has: the arrays, the list c, and its base exponents x
+pub record Had (v : View) (n : ℕ) (nums : List ℤ) (dens : List ℕ) (c : Items) (x : List Exponent) (cs : List Factor) (xs : List Exponent) : Type 0 where
+  pub lent : Lent v nums dens
   pub list : c ≡ packItems v cs
   pub exps : x ≡ packExps xs
   pub based : base (viewBases v n) cs ≡ given xs
@@ -135,7 +137,7 @@ pub record Turn (v : View) (n : ℕ) (cs : List Factor) (i : ℕ) (b : Exps) : T
   pub here : i < length cs
   pub is : b ≡ expsOf (base (viewBases v n) (single cs i unit ∷ []))
 
-module _ {v : View} {n : ℕ} {c : Items} {x : List Exponent} {cs : List Factor} {xs : List Exponent} (g : Had v n c x cs xs) where
+module _ {v : View} {n : ℕ} {nums : List ℤ} {dens : List ℕ} {c : Items} {x : List Exponent} {cs : List Factor} {xs : List Exponent} (g : Had v n nums dens c x cs xs) where
   -- the item read, at an exponent
   pub item-is : (i : ℕ) (d it : Item) (q : Exponent) → i < length cs → it ≡ withFactor (getD (c .at) i d) (of (atom (getD (c .at) i d .factor)) q) → it ≡ itemOf v (single cs i q)
   item-is i d it q h e = e ∙ ap (λ (y : Item). withFactor y (of (atom (y .factor)) q)) (item-at v c cs (g .list) i d noFactor h)

@@ -9,8 +9,9 @@ ghost use Rattle.exponents.specs.Fractions.{fractionOf};
 ghost use Rattle.units.specs.declared.Factor.{Factor as Factorᵛ};
 ghost use Rattle.units.specs.Lists.{some, factorFault};
 ghost use Rattle.tables.specs.Key.{first};
-ghost use Rattle.tables.specs.Items.{View, viewBases, itemOf, packItems};
+ghost use Rattle.tables.specs.Items.{View, Lent, viewBases, itemOf, packItems};
 ghost use Rattle.canonical.specs.Form.{formOf};
+ghost use Rattle.targets.specs.Firsts.{Short, firstTold};
 ghost use Rattle.targets.specs.Groups as spec;
 ghost use Rattle.targets.specs.Groups.{leading, greatest};
 use canonical::form;
@@ -99,12 +100,12 @@ fn representative(l: Items) -> usize
 // ---- the target
 
 // A row's first base exponent other than zero, 1 where it has none.
-fn first_exponent(a: [Exponent; 16]) -> Exponent
-    ensures { λ r. ⌜ r ≡ first a ⌝ }
+fn first_exponent(nums: &[i32], dens: &[u32], row: u32) -> Exponent
+    ensures { λ r. ⌜ r ≡ firstTold (now (nums .entry)) (now (dens .entry)) row ⌝ }
 {
     let mut i: usize = 0;
     while i < 16 {
-        let x = a[i];
+        let x = tables::pages::exponent_of(nums, dens, row, i);
         if x.num != 0 {
             return x;
         }
@@ -114,13 +115,12 @@ fn first_exponent(a: [Exponent; 16]) -> Exponent
 }
 
 // acc and what an item has in a representative whose first base exponent is d: product tested, then quotient, then the sum.
-fn with_share(acc: Exponent, it: Item, d: Exponent) -> Fraction
-    ensures { λ r. ⌜ ((v : View) (f : Factorᵛ) → it ≡ itemOf v f → r ≡ fractionOf (spec.withShare (λ a. first (v .exps a)) d acc f)) ⌝ }
+fn with_share(acc: Exponent, it: Item, d: Exponent, nums: &[i32], dens: &[u32]) -> Fraction
+    ensures { λ r. ⌜ ((v : View) → Lent v (now (nums .entry)) (now (dens .entry)) → Short v → (f : Factorᵛ) → it ≡ itemOf v f → r ≡ fractionOf (spec.withShare (λ a. first (v .exps a)) d acc f)) ⌝ }
 {
     let f = it.factor;
     let e = f.exponent;
-    let a = it.exps;
-    let x = exponents::product(e, first_exponent(a));
+    let x = exponents::product(e, first_exponent(nums, dens, f.row));
     match x {
         Fraction::Exact(p) => {
             let y = exponents::quotient(p, d);
@@ -134,14 +134,14 @@ fn with_share(acc: Exponent, it: Item, d: Exponent) -> Fraction
 }
 
 // The summed exponents, from 0.
-fn summed(l: Items, d: Exponent) -> Fraction
-    ensures { λ r. ⌜ ((v : View) (fs : List Factorᵛ) → l ≡ packItems v fs → length fs ≤ 16 → r ≡ fractionOf (spec.summed (λ a. first (v .exps a)) d fs)) ⌝ }
+fn summed(l: Items, d: Exponent, nums: &[i32], dens: &[u32]) -> Fraction
+    ensures { λ r. ⌜ ((v : View) → Lent v (now (nums .entry)) (now (dens .entry)) → Short v → (fs : List Factorᵛ) → l ≡ packItems v fs → length fs ≤ 16 → r ≡ fractionOf (spec.summed (λ a. first (v .exps a)) d fs)) ⌝ }
 {
     let n = bases::capped(l.len);
     let mut acc = Exponent { num: 0, den: 1 };
     let mut i: usize = 0;
     while i < n {
-        let x = with_share(acc, l.at[i], d);
+        let x = with_share(acc, l.at[i], d, nums, dens);
         match x {
             Fraction::Exact(t) => {
                 acc = t;
@@ -156,10 +156,10 @@ fn summed(l: Items, d: Exponent) -> Fraction
 }
 
 // The target of a group, where there are n base rows: the scalar, or its representative with the summed exponents.
-pub fn target_of(l: Items, n: usize) -> Form
-    ensures { λ r. ⌜ ((v : View) (fs : List Factorᵛ) → l ≡ packItems v fs → length fs ≤ 16 → n ≤ 16 → some factorFault fs ≡ false → r ≡ formOf v (spec.target (viewBases v n) (v .base) (λ a. first (v .exps a)) fs)) ⌝ }
+pub fn target_of(l: Items, n: usize, nums: &[i32], dens: &[u32]) -> Form
+    ensures { λ r. ⌜ ((v : View) → Lent v (now (nums .entry)) (now (dens .entry)) → Short v → (fs : List Factorᵛ) → l ≡ packItems v fs → length fs ≤ 16 → n ≤ 16 → some factorFault fs ≡ false → r ≡ formOf v (spec.target (viewBases v n) (v .base) (λ a. first (v .exps a)) fs)) ⌝ }
 {
-    let x = bases::base_of(l, n);
+    let x = bases::base_of(l, n, nums, dens);
     if x.refusal != 0 {
         return form::empty_but(x.refusal);
     }
@@ -169,9 +169,9 @@ pub fn target_of(l: Items, n: usize) -> Form
     }
     let p = representative(l);
     let it = l.at[p];
-    let a = it.exps;
-    let d = first_exponent(a);
-    let s = summed(l, d);
+    let f = it.factor;
+    let d = first_exponent(nums, dens, f.row);
+    let s = summed(l, d, nums, dens);
     match s {
         Fraction::Exact(t) => {
             let y = super::at_exponent(it, t);

@@ -8,7 +8,7 @@ ghost use Rattle.exponents.specs.declared.Exponent.{Exponent as Exponentᵛ};
 ghost use Rattle.units.specs.declared.Factor.{Factor as Factorᵛ};
 ghost use Rattle.tables.specs.Lists.{base};
 ghost use Rattle.tables.specs.Rows.{packExps};
-ghost use Rattle.tables.specs.Items.{View, viewBases, packItems, packed};
+ghost use Rattle.tables.specs.Items.{View, Lent, viewBases, packItems, packed};
 ghost use Rattle.canonical.specs.Form.{formOf};
 ghost use Rattle.targets.specs.Single.{search};
 use canonical::form;
@@ -32,8 +32,8 @@ pub fn alone(it: Item) -> Items
 
 // The first factor of the canonical list c that c is a whole power of, raised to it; the empty list where there is none. c has the
 // base exponents x at the first n base rows. RANGE beats none: every product of a factor is worked out.
-pub fn first_multiple(c: Items, x: [Exponent; 16], n: usize) -> Form
-    ensures { λ r. ⌜ ((v : View) (cs : List Factorᵛ) (xs : List Exponentᵛ) → c ≡ packItems v cs → x ≡ packExps xs → base (viewBases v n) cs ≡ given xs → length cs ≤ 16 → n ≤ 16 → r ≡ formOf v (search (viewBases v n) cs cs)) ⌝ }
+pub fn first_multiple(c: Items, x: [Exponent; 16], n: usize, nums: &[i32], dens: &[u32]) -> Form
+    ensures { λ r. ⌜ ((v : View) → Lent v (now (nums .entry)) (now (dens .entry)) → (cs : List Factorᵛ) (xs : List Exponentᵛ) → c ≡ packItems v cs → x ≡ packExps xs → base (viewBases v n) cs ≡ given xs → length cs ≤ 16 → n ≤ 16 → r ≡ formOf v (search (viewBases v n) cs cs)) ⌝ }
 {
     let m = bases::capped(c.len);
     let k = multiples::first_base(x);
@@ -44,7 +44,7 @@ pub fn first_multiple(c: Items, x: [Exponent; 16], n: usize) -> Form
     let mut i: usize = 0;
     'factors: while i < m {
         let it = super::at_exponent(c.at[i], one);
-        let b = bases::base_of_item(it, n);
+        let b = bases::base_of_item(it, n, nums, dens);
         if b.refusal != 0 {
             return form::empty_but(b.refusal);
         }

@@ -5,7 +5,7 @@ ghost use Rattle.units.specs.declared.Rows.{Rows as Rowsᵛ};
 ghost use Rattle.units.specs.Lists.{pack, madeOf};
 ghost use Rattle.tables.specs.Rows.{admit};
 ghost use Rattle.tables.specs.Pages.{admittedOf};
-ghost use Rattle.lists.specs.Opening.{baseRows, opening, openedOf};
+ghost use Rattle.lists.specs.Opening.{Tells, baseRows, opening, openedOf};
 ghost use Rattle.values.specs.Quantities.{answeredOf};
 ghost use Rattle.values.specs.Calls as spec;
 use super::answers;
@@ -100,10 +100,10 @@ pub fn no_simplify(rows: Rows, q: Quantity) -> Answer
     no_simplify_over(t, q)
 }
 
-pub fn reduce_over(o: Opened, q: Quantity) -> Answer
-    ensures { λ r. ⌜ ((rows : Rowsᵛ) → o ≡ openedOf (baseRows rows) (opening rows (q .unit) (pack [])) → r ≡ answeredOf (spec.reduce rows q)) ⌝ }
+pub fn reduce_over(o: Opened, q: Quantity, nums: &[i32], dens: &[u32]) -> Answer
+    ensures { λ r. ⌜ ((rows : Rowsᵛ) → o ≡ openedOf (baseRows rows) (opening rows (q .unit) (pack [])) → Tells rows (now (nums .entry)) (now (dens .entry)) → r ≡ answeredOf (spec.reduce rows q)) ⌝ }
 {
-    let x = lists::reductions::reduce_list_over(o);
+    let x = lists::reductions::reduce_list_over(o, nums, dens);
     if x.refusal != 0 {
         return answers::refused(x.refusal);
     }
@@ -115,8 +115,10 @@ pub fn reduce_over(o: Opened, q: Quantity) -> Answer
 pub fn reduce(rows: Rows, q: Quantity) -> Answer
     ensures { λ r. ⌜ r ≡ answeredOf (spec.reduce rows q) ⌝ }
 {
+    let mut nums = [0i32; 2048];
+    let mut dens = [1u32; 2048];
     let u = q.unit;
     let none = units::lists::empty();
-    let o = lists::opening::open_lists(rows, u, none);
-    reduce_over(o, q)
+    let o = lists::opening::open_lists(rows, u, none, &mut nums, &mut dens);
+    reduce_over(o, q, &nums, &dens)
 }

@@ -64,7 +64,7 @@ returns c =
     let m : tie.After-many Inv-loop μ-loop = c .before .before in
     let a = start m .args in
     let is : admit (tableFrom (a .s .now)) ≡ stopped TABLE [] = too-many (a .s .now) (m .many .result) (m .many .ensures) (c .before .if1 .taken) in
-    (c .refused .ensures ∙ sym (ap (admittedOf (slots (rowsOf (tableFrom (a .s .now))))) is), start m .pre, subst (λ (x : Admission). Pages x (a .nums .now) (a .dens .now) (a .scales .now) (a .ranks .now) (a .based .now)) (sym is) tt)
+    (c .refused .ensures ∙ sym (ap (admittedOf (slots (rowsOf (tableFrom (a .s .now))))) is), start m .pre .0, subst (λ (x : Admission). Pages x (a .nums .now) (a .dens .now) (a .scales .now) (a .ranks .now) (a .based .now)) (sym is) tt)
 
 slots-of-requires : tie.Need-slots-of-requires Inv-loop μ-loop
 slots-of-requires c κs = let m : tie.After-many Inv-loop μ-loop = c .before in (c .if1 .left, rows-inside (start m .args .s .now) (m .many .result) (m .many .ensures) (c .if1 .left))
@@ -73,7 +73,7 @@ loop-holds : tie.Need-loop-holds Inv-loop μ-loop
 loop-holds c =
     let m : tie.After-many Inv-loop μ-loop = c .before .before in
     let rs = rows (start m .args .s .now) (m .many .result) in
-    (omega arith, start m .pre, admitting-none (slots rs) rs _ _ _ _ _)
+    (omega arith, start m .pre .0, admitting-none (slots rs) rs _ _ _ _ _ (start m .pre .1))
 
 mul-read-row : tie.Need-mul-read-row Inv-loop μ-loop
 mul-read-row c = search needs
@@ -96,19 +96,19 @@ refused-requires-2 : tie.Need-refused-requires-2 Inv-loop μ-loop
 refused-requires-2 c κs = search needs
 
 same-length : tie.Need-same-length Inv-loop μ-loop
-same-length c = let q = row (c .before .before) in q .admit-row .ensures .0 .0 ∙ sym (start (number (turn q)) .pre .0)
+same-length c = let q = row (c .before .before) in q .admit-row .ensures .0 .0 ∙ sym (start (number (turn q)) .pre .0 .0)
 
 same-length-2 : tie.Need-same-length-2 Inv-loop μ-loop
-same-length-2 c = let q = row (c .before .before) in q .admit-row .ensures .0 .1 ∙ sym (start (number (turn q)) .pre .1)
+same-length-2 c = let q = row (c .before .before) in q .admit-row .ensures .0 .1 ∙ sym (start (number (turn q)) .pre .0 .1)
 
 same-length-3 : tie.Need-same-length-3 Inv-loop μ-loop
-same-length-3 c = let q = row (c .before .before) in q .admit-row .ensures .0 .2 ∙ sym (start (number (turn q)) .pre .2)
+same-length-3 c = let q = row (c .before .before) in q .admit-row .ensures .0 .2 ∙ sym (start (number (turn q)) .pre .0 .2)
 
 same-length-4 : tie.Need-same-length-4 Inv-loop μ-loop
-same-length-4 c = let q = row (c .before .before) in q .admit-row .ensures .0 .3 ∙ sym (start (number (turn q)) .pre .3)
+same-length-4 c = let q = row (c .before .before) in q .admit-row .ensures .0 .3 ∙ sym (start (number (turn q)) .pre .0 .3)
 
 same-length-5 : tie.Need-same-length-5 Inv-loop μ-loop
-same-length-5 c = let q = row (c .before .before) in q .admit-row .ensures .0 .4 ∙ sym (start (number (turn q)) .pre .4)
+same-length-5 c = let q = row (c .before .before) in q .admit-row .ensures .0 .4 ∙ sym (start (number (turn q)) .pre .0 .4)
 
 returns-2 : tie.Need-returns-2 Inv-loop μ-loop
 returns-2 c =
@@ -143,19 +143,19 @@ loop-again c =
     (omega arith, q .admit-row .ensures .0, more)
 
 same-length-6 : tie.Need-same-length-6 Inv-loop μ-loop
-same-length-6 c = c .before .loop .inv .1 .0 ∙ sym (start (number (c .before)) .pre .0)
+same-length-6 c = c .before .loop .inv .1 .0 ∙ sym (start (number (c .before)) .pre .0 .0)
 
 same-length-7 : tie.Need-same-length-7 Inv-loop μ-loop
-same-length-7 c = c .before .loop .inv .1 .1 ∙ sym (start (number (c .before)) .pre .1)
+same-length-7 c = c .before .loop .inv .1 .1 ∙ sym (start (number (c .before)) .pre .0 .1)
 
 same-length-8 : tie.Need-same-length-8 Inv-loop μ-loop
-same-length-8 c = c .before .loop .inv .1 .2 ∙ sym (start (number (c .before)) .pre .2)
+same-length-8 c = c .before .loop .inv .1 .2 ∙ sym (start (number (c .before)) .pre .0 .2)
 
 same-length-9 : tie.Need-same-length-9 Inv-loop μ-loop
-same-length-9 c = c .before .loop .inv .1 .3 ∙ sym (start (number (c .before)) .pre .3)
+same-length-9 c = c .before .loop .inv .1 .3 ∙ sym (start (number (c .before)) .pre .0 .3)
 
 same-length-10 : tie.Need-same-length-10 Inv-loop μ-loop
-same-length-10 c = c .before .loop .inv .1 .4 ∙ sym (start (number (c .before)) .pre .4)
+same-length-10 c = c .before .loop .inv .1 .4 ∙ sym (start (number (c .before)) .pre .0 .4)
 
 returns-3 : tie.Need-returns-3 Inv-loop μ-loop
 returns-3 c =

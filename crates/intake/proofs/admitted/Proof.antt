@@ -1,5 +1,6 @@
 -- `admitted` meets its contract.
 use borrow.Author.Needs.{needs}
+use Rattle.tables.proofs.Telling.{blank-new}
 use Rattle.intake.proofs.admitted.Statement.{statement}
 use Rattle.intake.proofs.admitted.Tie as tie
 
@@ -19,7 +20,7 @@ slice-aggregate-admit-bytes-5 : tie.Need-slice-aggregate-admit-bytes-5
 slice-aggregate-admit-bytes-5 c = search needs
 
 admit-bytes-requires : tie.Need-admit-bytes-requires
-admit-bytes-requires c κs = search needs
+admit-bytes-requires c κs = search (needs, blank-new)
 
 returns : tie.Need-returns
 returns c = c .before .before .before .before .before .admit-bytes .ensures .0

@@ -31,8 +31,8 @@ refused-requires c κs = search needs
 
 returns : tie.Need-returns
 unfolding checkedPower
-returns c rows opened =
-    let s = c .before .before .before .args in
+returns c rows opened tells =
+    let s = c .before .before .before .before .args in
     c .refused .ensures ∙ unanswered _ _ (stopped rows (s .q .unit) (s .p .unit) (s .o) opened (work rows (s .q) (s .p)) (c .before .if1 .taken))
 
 no-items-requires : tie.Need-no-items-requires
@@ -55,14 +55,14 @@ refused-requires-2 c κs = search needs
 
 returns-2 : tie.Need-returns-2
 unfolding checkedPower
-returns-2 c rows opened =
+returns-2 c rows opened tells =
     let k = c .before .before .before .before in
     let z = k .before in
     let d = z .before .before .before .before in
-    let s = d .before .before .args in
+    let s = d .before .before .before .args in
     let r = ready rows (s .q .unit) (s .p .unit) (s .o) opened (d .if1 .left) in
     let o = convertIn rows (r .ks) (r .gs) [] (s .p .value) in
-    let e = to-scalar r (s .p .value) (k .convert .result) (z .no-items .result) (z .no-items .ensures) (k .convert .ensures) in
+    let e = to-scalar r (s .nums .now) (s .dens .now) tells (s .p .value) (k .convert .result) (z .no-items .result) (z .no-items .ensures) (k .convert .ensures) in
     let n = value-refused o (k .convert .result) e _ _ (c .before .before .enum-told .given .1) (c .before .refusal-of .ensures) in
     c .refused2 .ensures ∙ unanswered _ _ (refuses-as _ _ _ (goes r (work rows (s .q) (s .p))) (bind-refuses o _ _ n))
 
@@ -74,10 +74,10 @@ refused-requires-3 c κs = search needs
 
 -- an opened list has no more than 16 factors
 returns-3 : tie.Need-returns-3
-returns-3 c rows opened =
+returns-3 c rows opened tells =
     let f = c .before .before .before in
     let d = f .before .before .before .before .before .before .before .before .before in
-    let s = d .before .before .args in
+    let s = d .before .before .before .args in
     let r = ready rows (s .q .unit) (s .p .unit) (s .o) opened (d .if1 .left) in
     let l = f .factors-of .ensures (seen r) (r .fs) (r .first) (r .first-short) in
     absurd (omega (arith, c .before .if2 .taken, ap (λ (l : Factors). l .len) l, len-pack (r .fs), r .first-short))
@@ -87,15 +87,15 @@ raised-to-requires c κs = search needs
 
 returns-4 : tie.Need-returns-4
 unfolding checkedPower
-returns-4 c rows opened =
+returns-4 c rows opened tells =
     let f = c .before .before .before in
     let k = f .before .before .before .before in
     let z = k .before in
     let d = z .before .before .before .before in
-    let s = d .before .before .args in
+    let s = d .before .before .before .args in
     let r = ready rows (s .q .unit) (s .p .unit) (s .o) opened (d .if1 .left) in
     let o = convertIn rows (r .ks) (r .gs) [] (s .p .value) in
-    let e = to-scalar r (s .p .value) (k .convert .result) (z .no-items .result) (z .no-items .ensures) (k .convert .ensures) in
+    let e = to-scalar r (s .nums .now) (s .dens .now) tells (s .p .value) (k .convert .result) (z .no-items .result) (z .no-items .ensures) (k .convert .ensures) in
     let y = f .before .before .c .given in
     let g = value-given o (k .convert .result) e (y .0 .0) (y .1) in
     let l = f .factors-of .ensures (seen r) (r .fs) (r .first) (r .first-short) in

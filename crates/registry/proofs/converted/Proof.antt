@@ -10,14 +10,17 @@ use Rattle.registry.proofs.converted.Tie as tie
 abbrev begin : tie.After-shared-slice-known4 → tie.Start
 begin c = c .before .before .before .before
 
+no-items-requires : tie.Need-no-items-requires
+no-items-requires c κs = search needs
+
 resolve-requires : tie.Need-resolve-requires
 resolve-requires c κs = search needs
 
 returns : tie.Need-returns
 returns c tb ks ls ms n g p q =
     let r = c .before .before in
-    let a = begin (r .before) .args in
-    absurd (c .if1 .taken (ap (λ (o : Resolved). o .refusal) (resolves g (a .l) (a .m) ls ms p q (r .resolve .result) (r .resolve .ensures ks n (g .paged) (keyed g)))))
+    let a = begin (r .before .before) .args in
+    absurd (c .if1 .taken (ap (λ (o : Resolved). o .refusal) (resolves g (a .l) (a .m) ls ms p q (r .resolve .result) (r .resolve .ensures (r .before .no-items .ensures) ks n (g .paged) (keyed g)))))
 
 convert-requires : tie.Need-convert-requires
 convert-requires c κs = search needs
@@ -25,8 +28,8 @@ convert-requires c κs = search needs
 returns-2 : tie.Need-returns-2
 returns-2 c tb ks ls ms n g p q =
     let r = c .before .before .before .before .before in
-    let a = begin (r .before) .args in
-    converts g (a .l) (a .m) ls ms p q (r .resolve .result) (r .resolve .ensures ks n (g .paged) (keyed g)) (a .v) (c .convert .result) (c .convert .ensures)
+    let a = begin (r .before .before) .args in
+    converts g (a .l) (a .m) ls ms p q (r .resolve .result) (r .resolve .ensures (r .before .no-items .ensures) ks n (g .paged) (keyed g)) (a .v) (c .convert .result) (c .convert .ensures)
 
 pub converted-spec : {M : Type 1} → statement M
-converted-spec = tie.close (tie.spec resolve-requires returns convert-requires returns-2)
+converted-spec = tie.close (tie.spec no-items-requires resolve-requires returns convert-requires returns-2)

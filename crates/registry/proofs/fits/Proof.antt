@@ -23,7 +23,7 @@ use Rattle.lists.specs.Opening.{baseRows}
 use Rattle.lists.specs.Calls.{basesIn}
 use Rattle.registry.specs.Registry.{plainView, Held}
 use Rattle.registry.proofs.GivenLists.{listed, list-long}
-use Rattle.registry.proofs.Looking.{keyed, slots-short, plain-bases, bases-same}
+use Rattle.registry.proofs.Looking.{lent-plain, keyed, slots-short, plain-bases, bases-same}
 use Rattle.registry.proofs.Tested.{too-long, no-base, other-units, no-scale, near, not-near}
 use Rattle.registry.proofs.fits.Statement.{statement}
 use Rattle.registry.proofs.fits.Tie as tie
@@ -42,7 +42,7 @@ sized c rows ms p = list-long (listed p) full
 -- its base exponents, as the code has them
 based : (c : tie.After-base-of) (tb : Rows) (ks : List Facts) (ms : List Factor) → let a = begin (c .before .before .before .before) .args in Held tb ks (a .n) (now (a .nums)) (now (a .dens)) (now (a .scales)) (now (a .ranks)) (now (a .based)) → checked (length ks) (a .m) ≡ given ms → c .base-of .result ≡ expsOf (base (basesIn tb ks) ms)
 based c tb ks ms g p =
-    c .base-of .ensures (plainView ks) ms (c .before .plain .ensures ks ms (keyed g .few) (g .paged) p) (listed p .few) (slots-short g) (listed p .shaped)
+    c .base-of .ensures (plainView ks) (lent-plain g) ms (c .before .plain .ensures ks ms (keyed g .few) (g .paged .sized) (g .paged .basic) p) (listed p .few) (slots-short g) (listed p .shaped)
     ∙ ap (λ bs. expsOf (base bs ms)) (plain-bases g)
 
 answered : (c : tie.Else2) (tb : Rows) (ks : List Facts) (ms : List Factor) → let b = c .before .before in let a = begin (b .before .before .before .before) .args in Held tb ks (a .n) (now (a .nums)) (now (a .dens)) (now (a .scales)) (now (a .ranks)) (now (a .based)) → checked (length ks) (a .m) ≡ given ms → Answered (base (basesIn tb ks) ms) (b .base-of .result)
@@ -56,7 +56,7 @@ compared c tb ks ms es g p e n = let y = answered (c .before .before) tb ks ms g
 scaled : (c : tie.After-scale-from) (tb : Rows) (ks : List Facts) (ms : List Factor) → let l = c .before .before .before .before .before .before .before in let a = begin (l .before .before .before) .args in Held tb ks (a .n) (now (a .nums)) (now (a .dens)) (now (a .scales)) (now (a .ranks)) (now (a .based)) → checked (length ks) (a .m) ≡ given ms → c .scale-from .result ≡ scaledOf (scale binary64 (sizeBy (scaleAt ks)) ms)
 scaled c tb ks ms g p =
     let l = c .before .before .before .before .before .before .before in
-    c .scale-from .ensures (plainView ks) ms (l .plain .ensures ks ms (keyed g .few) (g .paged) p) (listed p .few)
+    c .scale-from .ensures (plainView ks) ms (l .plain .ensures ks ms (keyed g .few) (g .paged .sized) (g .paged .basic) p) (listed p .few)
 
 returns : tie.Need-returns
 returns c tb ks ms es g p e n =

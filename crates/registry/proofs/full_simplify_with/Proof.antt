@@ -1,5 +1,6 @@
 -- `full_simplify_with` meets its contract.
 use borrow.Author.Needs.{needs}
+use Rattle.tables.proofs.Telling.{blank-new}
 use Rattle.registry.proofs.full_simplify_with.Statement.{statement}
 use Rattle.registry.proofs.full_simplify_with.Tie as tie
 
@@ -19,7 +20,7 @@ slice-aggregate-admit-5 : tie.Need-slice-aggregate-admit-5
 slice-aggregate-admit-5 c = search needs
 
 admit-requires : tie.Need-admit-requires
-admit-requires c κs = search needs
+admit-requires c κs = search (needs, blank-new)
 
 slice-aggregate-full-simplify-with-over : tie.Need-slice-aggregate-full-simplify-with-over
 slice-aggregate-full-simplify-with-over c = search needs

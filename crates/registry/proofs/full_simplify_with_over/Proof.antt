@@ -29,7 +29,7 @@ use Rattle.simplification.proofs.Sounding.{simplify-checked}
 use Rattle.simplification.proofs.Viewed.{simplify-by-places}
 use Rattle.registry.specs.Registry.{candidateLists, registered, Held}
 use Rattle.registry.proofs.GivenLists.{listed}
-use Rattle.registry.proofs.Looking.{keyed}
+use Rattle.registry.proofs.Looking.{lends-held, keyed}
 use Rattle.registry.proofs.Choosing.{own-value}
 use Rattle.registry.proofs.Answering.{Alone, alone-refuses, alone, left-by, none-left, table-stops, list-stops, candidates-stop, unmarked, marked}
 use Rattle.registry.proofs.full_simplify_with_over.Statement.{statement}
@@ -37,7 +37,7 @@ use Rattle.registry.proofs.full_simplify_with_over.Tie as tie
 
 -- ---- the stages of the call
 abbrev begin : tie.After-resolve → tie.Start
-begin r = r .before .before .before .before .before .before .before .before .before
+begin r = r .before .before .before .before .before .before .before .before .before .before
 
 abbrev opened : tie.After-candidates-fault → tie.After-resolve
 opened f = f .before .before .before
@@ -57,7 +57,7 @@ module _ (rows : Rows) where
   -- the table, admitted
   module _ (r : tie.After-resolve) (h : Asked (begin r)) where
     tabled : Admits (baseRows rows) (admit rows) (begin r .args .t)
-    tabled = admitted-by (baseRows rows) (admit rows) (begin r .args .t) (h .is) (r .before .before .before .if1 .left)
+    tabled = admitted-by (baseRows rows) (admit rows) (begin r .args .t) (h .is) (r .before .before .before .before .if1 .left)
 
     abbrev ks : List Facts
     ks = tabled .rows
@@ -78,13 +78,13 @@ module _ (rows : Rows) where
     slots-sized : begin r .args .t .slots .len ≡ length (baseRows rows)
     slots-sized = slots-len _ (baseRows rows) (ap (λ (t : Admitted). t .slots) (tabled .table))
 
-    resolved : r .resolve .result ≡ resolvedOf ks (both (length ks) (begin r .args .q .unit) (r .before .empty .result))
-    resolved = r .resolve .ensures ks rows-long (held .paged) (keyed held)
+    resolved : r .resolve .result ≡ resolvedOf ks (both (length ks) (begin r .args .q .unit) (r .before .before .empty .result))
+    resolved = r .resolve .ensures (r .before .no-items .ensures) ks rows-long (held .paged) (keyed held)
 
   -- the list, checked
   module _ (f : tie.After-candidates-fault) (h : Asked (begin (opened f))) where
     lone : Alone (ks (opened f) h) (begin (opened f) .args .q .unit) (opened f .resolve .result)
-    lone = alone (ks (opened f) h) (begin (opened f) .args .q .unit) (opened f .before .empty .result) (opened f .resolve .result) (opened f .before .empty .ensures) (resolved (opened f) h) (f .before .if2 .left)
+    lone = alone (ks (opened f) h) (begin (opened f) .args .q .unit) (opened f .before .before .empty .result) (opened f .resolve .result) (opened f .before .before .empty .ensures) (resolved (opened f) h) (f .before .if2 .left)
 
     fault-is : f .candidates-fault .result ≡ refusalOf (candidateLists (length (ks (opened f) h)) (begin (opened f) .args .c))
     fault-is = f .candidates-fault .ensures ∙ ap (λ n. refusalOf (candidateLists n (begin (opened f) .args .c))) (rows-long (opened f) h)
@@ -109,7 +109,7 @@ module _ (rows : Rows) where
     stepped : s .simplified .result ≡ answeredOf (map quantityOf steps)
     stepped =
         let n = slots-sized (opened (checks s)) h in
-        s .simplified .ensures (view facts fs []) fs (lone (checks s) h .has) (listed (lone (checks s) h .is) .few) (omega (arith, n, slots-few (rowsOf rows))) (listed (lone (checks s) h .is) .shaped)
+        s .simplified .ensures (view facts fs []) (lends-held (held (opened (checks s)) h) (fs ++ [])) fs (lone (checks s) h .has) (listed (lone (checks s) h .is) .few) (omega (arith, n, slots-few (rowsOf rows))) (listed (lone (checks s) h .is) .shaped)
         ∙ ap (λ o. answeredOf (map quantityOf o)) (simplify-by-places rows facts fs [] _ (bases-agree rows facts (fs ++ []) _ n) (start s .args .q .value) fs (first-named facts fs []))
 
 refused-requires : tie.Need-refused-requires
@@ -123,6 +123,9 @@ returns c rows e p =
 empty-requires : tie.Need-empty-requires
 empty-requires c κs = search needs
 
+no-items-requires : tie.Need-no-items-requires
+no-items-requires c κs = search needs
+
 resolve-requires : tie.Need-resolve-requires
 resolve-requires c κs = search needs
 
@@ -135,7 +138,7 @@ returns-2 c rows e p =
     let h : Asked rows (begin r) = record { is = e; pages = p } in
     let s = begin r .args in
     c .refused2 .ensures
-    ∙ unanswered _ _ (list-stops rows (s .q) (s .c) (ks rows r h) (rows-known rows r h) _ (alone-refuses (ks rows r h) (s .q .unit) (r .before .empty .result) (r .resolve .result) (r .before .empty .ensures) (resolved rows r h) (c .before .if2 .taken)))
+    ∙ unanswered _ _ (list-stops rows (s .q) (s .c) (ks rows r h) (rows-known rows r h) _ (alone-refuses (ks rows r h) (s .q .unit) (r .before .before .empty .result) (r .resolve .result) (r .before .before .empty .ensures) (resolved rows r h) (c .before .if2 .taken)))
 
 candidates-fault-requires : tie.Need-candidates-fault-requires
 candidates-fault-requires c κs = search needs
@@ -205,6 +208,7 @@ full-simplify-with-over-spec =
     refused-requires
     returns
     empty-requires
+    no-items-requires
     resolve-requires
     refused-requires-2
     returns-2

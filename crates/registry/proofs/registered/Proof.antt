@@ -33,7 +33,7 @@ use Rattle.simplification.specs.Rules.{rulesIn, convertBy}
 use Rattle.simplification.specs.Steps.{Amount}
 use Rattle.registry.specs.Registry.{candidateLists, nearOne, isSingle, plainView, Held}
 use Rattle.registry.proofs.GivenLists.{listed}
-use Rattle.registry.proofs.Looking.{keyed, slots-short, plain-bases, base-sized}
+use Rattle.registry.proofs.Looking.{lent-plain, keyed, slots-short, plain-bases, base-sized}
 use Rattle.registry.proofs.Choosing.{fresh-long}
 use Rattle.registry.proofs.BaseList.{base-list-few, base-list-checked}
 use Rattle.registry.proofs.Settling.{few-left, range-stops, fraction-stops, unit-stops, unit-taken, to-candidates}
@@ -75,11 +75,11 @@ module _ (tb : Rows) (ks : List Facts) (ls : List Factor) (ms : List (List Facto
   -- the base exponents of what is left
   module _ (b : tie.After-base-of) (h : Asked (begin b)) where
     seen : b .before .before .plain .result ≡ packItems (plainView ks) ls
-    seen = b .before .before .plain .ensures ks ls (keyed (h .table) .few) (h .table .paged) (h .left)
+    seen = b .before .before .plain .ensures ks ls (keyed (h .table) .few) (h .table .paged .sized) (h .table .paged .basic) (h .left)
 
     exps : b .base-of .result ≡ expsOf (base (basesIn tb ks) ls)
     exps =
-        b .base-of .ensures (plainView ks) ls seen (listed (h .left) .few) (slots-short (held (begin b) h)) (listed (h .left) .shaped)
+        b .base-of .ensures (plainView ks) (lent-plain (h .table)) ls seen (listed (h .left) .few) (slots-short (held (begin b) h)) (listed (h .left) .shaped)
         ∙ ap (λ bs. expsOf (base bs ls)) (plain-bases (held (begin b) h))
 
     two : 2 ≤ length ls

@@ -1,5 +1,6 @@
 -- `canonical` meets its contract.
 use borrow.Author.Needs.{needs}
+use Rattle.tables.proofs.Telling.{blank-new}
 use Rattle.lists.specs.Calls as lists
 use Rattle.requests.specs.Calls.{canonical}
 use Rattle.requests.proofs.Calling.{alone, with-one}
@@ -12,8 +13,14 @@ list-requires c κs = search needs
 empty-requires : tie.Need-empty-requires
 empty-requires c κs = search needs
 
+slice-aggregate-open-lists : tie.Need-slice-aggregate-open-lists
+slice-aggregate-open-lists c = search needs
+
+slice-aggregate-open-lists-2 : tie.Need-slice-aggregate-open-lists-2
+slice-aggregate-open-lists-2 c = search needs
+
 open-lists-requires : tie.Need-open-lists-requires
-open-lists-requires c κs = search needs
+open-lists-requires c κs = search (needs, blank-new)
 
 canonical-over-requires : tie.Need-canonical-over-requires
 canonical-over-requires c κs = search needs
@@ -28,8 +35,8 @@ returns : tie.Need-returns
 unfolding canonical
 returns c =
     let h = c .before .before .before .before in
-    let k = h .before in
-    with-one (c .before .before .unit .ensures) (lists.canonical _) (h .canonical-over .ensures _ _ (alone _ _ (k .open-lists .ensures) (k .before .empty .ensures))) (k .before .before .list .ensures)
+    let k = h .before .before .before in
+    with-one (c .before .before .unit .ensures) (lists.canonical _) (h .canonical-over .ensures _ _ (alone _ _ (k .open-lists .ensures .0) (k .before .before .before .empty .ensures))) (k .before .before .before .before .list .ensures)
 
 pub canonical-spec : {M : Type 1} → statement M
 canonical-spec =
@@ -37,6 +44,8 @@ canonical-spec =
     (tie.spec
     list-requires
     empty-requires
+    slice-aggregate-open-lists
+    slice-aggregate-open-lists-2
     open-lists-requires
     canonical-over-requires
     unit-requires

@@ -1,5 +1,6 @@
 -- `full_simplify_with` meets its contract.
 use borrow.Author.Needs.{needs}
+use Rattle.tables.proofs.Telling.{blank-new}
 use Rattle.registry.specs.Calls as registry
 use Rattle.requests.specs.Calls.{fullSimplifyWith}
 use Rattle.requests.proofs.Calling.{with-two}
@@ -28,7 +29,7 @@ slice-aggregate-admit-bytes-5 : tie.Need-slice-aggregate-admit-bytes-5
 slice-aggregate-admit-bytes-5 c = search needs
 
 admit-bytes-requires : tie.Need-admit-bytes-requires
-admit-bytes-requires c κs = search needs
+admit-bytes-requires c κs = search (needs, blank-new)
 
 slice-aggregate-full-simplify-with-over : tie.Need-slice-aggregate-full-simplify-with-over
 slice-aggregate-full-simplify-with-over c = search needs

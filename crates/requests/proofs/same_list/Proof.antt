@@ -1,5 +1,6 @@
 -- `same_list` meets its contract.
 use borrow.Author.Needs.{needs}
+use Rattle.tables.proofs.Telling.{blank-new}
 use Rattle.lists.specs.Calls as lists
 use Rattle.requests.specs.Calls.{sameList}
 use Rattle.requests.proofs.Calling.{with-two}
@@ -12,8 +13,14 @@ list-requires c κs = search needs
 list-requires-2 : tie.Need-list-requires-2
 list-requires-2 c κs = search needs
 
+slice-aggregate-open-lists : tie.Need-slice-aggregate-open-lists
+slice-aggregate-open-lists c = search needs
+
+slice-aggregate-open-lists-2 : tie.Need-slice-aggregate-open-lists-2
+slice-aggregate-open-lists-2 c = search needs
+
 open-lists-requires : tie.Need-open-lists-requires
-open-lists-requires c κs = search needs
+open-lists-requires c κs = search (needs, blank-new)
 
 same-list-over-requires : tie.Need-same-list-over-requires
 same-list-over-requires c κs = search needs
@@ -28,8 +35,8 @@ returns : tie.Need-returns
 unfolding sameList
 returns c =
     let h = c .before .before .before .before in
-    let k = h .before in
-    with-two (c .before .before .verdict .ensures) (lists.sameLists _) (h .same-list-over .ensures _ _ _ (k .open-lists .ensures)) (k .before .before .list .ensures) (k .before .list2 .ensures)
+    let k = h .before .before .before in
+    with-two (c .before .before .verdict .ensures) (lists.sameLists _) (h .same-list-over .ensures _ _ _ (k .open-lists .ensures .0)) (k .before .before .before .before .list .ensures) (k .before .before .before .list2 .ensures)
 
 pub same-list-spec : {M : Type 1} → statement M
 same-list-spec =
@@ -37,6 +44,8 @@ same-list-spec =
     (tie.spec
     list-requires
     list-requires-2
+    slice-aggregate-open-lists
+    slice-aggregate-open-lists-2
     open-lists-requires
     same-list-over-requires
     verdict-requires

@@ -1,5 +1,6 @@
 -- `smaller_unit` meets its contract.
 use borrow.Author.Needs.{needs}
+use Rattle.tables.proofs.Telling.{blank-new}
 use Rattle.lists.specs.Calls as lists
 use Rattle.requests.specs.Calls.{smallerUnit}
 use Rattle.requests.proofs.Calling.{with-two}
@@ -12,8 +13,20 @@ list-requires c κs = search needs
 list-requires-2 : tie.Need-list-requires-2
 list-requires-2 c κs = search needs
 
+slice-aggregate-open-lists : tie.Need-slice-aggregate-open-lists
+slice-aggregate-open-lists c = search needs
+
+slice-aggregate-open-lists-2 : tie.Need-slice-aggregate-open-lists-2
+slice-aggregate-open-lists-2 c = search needs
+
 open-lists-requires : tie.Need-open-lists-requires
-open-lists-requires c κs = search needs
+open-lists-requires c κs = search (needs, blank-new)
+
+slice-aggregate-smaller-unit-over : tie.Need-slice-aggregate-smaller-unit-over
+slice-aggregate-smaller-unit-over c = search needs
+
+slice-aggregate-smaller-unit-over-2 : tie.Need-slice-aggregate-smaller-unit-over-2
+slice-aggregate-smaller-unit-over-2 c = search needs
 
 smaller-unit-over-requires : tie.Need-smaller-unit-over-requires
 smaller-unit-over-requires c κs = search needs
@@ -28,8 +41,8 @@ returns : tie.Need-returns
 unfolding smallerUnit
 returns c =
     let h = c .before .before .before .before in
-    let k = h .before in
-    with-two (c .before .before .unit .ensures) (lists.smallerUnit _) (h .smaller-unit-over .ensures _ _ _ (k .open-lists .ensures)) (k .before .before .list .ensures) (k .before .list2 .ensures)
+    let k = h .before .before .before .before .before in
+    with-two (c .before .before .unit .ensures) (lists.smallerUnit _) (h .smaller-unit-over .ensures _ _ _ (k .open-lists .ensures .0) (k .open-lists .ensures .1)) (k .before .before .before .before .list .ensures) (k .before .before .before .list2 .ensures)
 
 pub smaller-unit-spec : {M : Type 1} → statement M
 smaller-unit-spec =
@@ -37,7 +50,11 @@ smaller-unit-spec =
     (tie.spec
     list-requires
     list-requires-2
+    slice-aggregate-open-lists
+    slice-aggregate-open-lists-2
     open-lists-requires
+    slice-aggregate-smaller-unit-over
+    slice-aggregate-smaller-unit-over-2
     smaller-unit-over-requires
     unit-requires
     same-length

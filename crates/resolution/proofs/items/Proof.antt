@@ -10,21 +10,21 @@ use Rattle.units.specs.declared.Factor.{Factor}
 use Rattle.units.specs.Lists.{listOf}
 use Rattle.units.proofs.Laws.{listed}
 use Rattle.tables.specs.Rows.{Facts}
-use Rattle.tables.specs.Pages.{Paged}
+use Rattle.tables.specs.Pages.{Sized, Ranked, Basic}
 use Rattle.tables.specs.Items.{viewOf, packItems}
 use Rattle.tables.proofs.Terms.{unmapped, nilFactor}
-use Rattle.resolution.specs.Resolve.{Named}
-use Rattle.resolution.proofs.Resolving.{pack-none, items-more, row-there, item-of}
+use Rattle.resolution.specs.Resolve.{noItems, Named}
+use Rattle.resolution.proofs.Resolving.{pack-none, items-more, item-of}
 use Rattle.resolution.proofs.items.Statement.{statement}
 use Rattle.resolution.proofs.items.Tie as tie
 
 abbrev Inv-loop : tie.InvT-loop
-Inv-loop from n keys named nums dens scales ranks based l o₀ m i₀ o i =
+Inv-loop from n keys named scales ranks based l o₀ m i₀ o i =
     (i ≤ m)
-    × ((ks : List Facts) (fs : List Factor) → Named ks fs n named keys → n ≡ length fs → listOf l ≡ take (l .len) (drop from fs) → Paged ks nums dens scales ranks based → o ≡ packItems (viewOf ks fs) (take i (listOf l)))
+    × (o₀ ≡ noItems → (ks : List Facts) (fs : List Factor) → Named ks fs n named keys → n ≡ length fs → listOf l ≡ take (l .len) (drop from fs) → Sized ks scales → Ranked ks ranks → Basic ks based → o ≡ packItems (viewOf ks fs) (take i (listOf l)))
 
 abbrev μ-loop : tie.MeasureT-loop
-μ-loop from n keys named nums dens scales ranks based l o₀ m i₀ o i = m - i
+μ-loop from n keys named scales ranks based l o₀ m i₀ o i = m - i
 
 -- the list is full, and each row that is named is a row of the arrays
 full : (c : tie.Start Inv-loop μ-loop) → length (c .args .t1 .at) ≡ 16
@@ -33,11 +33,8 @@ full c = search (needs, unmapped)
 low : (c : tie.Start Inv-loop μ-loop) (i : ℕ) → i < c .args .t1 .len → getD (c .args .named .now) (c .args .from + i) 0 < 128
 low c i h = c .pre .5 (c .args .from + i) (omega arith)
 
-no-items-requires : tie.Need-no-items-requires Inv-loop μ-loop
-no-items-requires c κs = search needs
-
 loop-holds : tie.Need-loop-holds Inv-loop μ-loop
-loop-holds c = (omega arith, λ ks fs h n e g. c .no-items .ensures ∙ pack-none (viewOf ks fs))
+loop-holds c = (omega arith, λ none ks fs h n e sized ranked basic. none ∙ pack-none (viewOf ks fs))
 
 mul-f : tie.Need-mul-f Inv-loop μ-loop
 mul-f c = search needs
@@ -49,7 +46,7 @@ add-count-of : tie.Need-add-count-of Inv-loop μ-loop
 add-count-of c = search needs
 
 count-of-requires : tie.Need-count-of-requires Inv-loop μ-loop
-count-of-requires c κs = let p = c .before .before .before .before .before .before .before .before .before .pre in (omega arith, p .2, p .3, p .4, p .6 .3, p .5)
+count-of-requires c κs = let p = c .before .before .before .before .before .before .before .pre in (omega arith, p .2, p .3, p .4, p .7, p .5)
 
 add-r : tie.Need-add-r Inv-loop μ-loop
 add-r c = search needs
@@ -61,13 +58,16 @@ shared-slice-read-r : tie.Need-shared-slice-read-r Inv-loop μ-loop
 shared-slice-read-r c = search needs
 
 cast-item : tie.Need-cast-item Inv-loop μ-loop
-cast-item c = let h = low (c .before .before .before .before .before .before .before .before .before .before .before) (c .before .before .before .before .loop .i) (omega arith) in search needs
+cast-item c = let h = low (c .before .before .before .before .before .before .before .before .before) (c .before .before .before .before .loop .i) (omega arith) in search needs
 
 item-requires : tie.Need-item-requires Inv-loop μ-loop
-item-requires c κs = (low (c .before .before .before .before .before .before .before .before .before .before .before) (c .before .before .before .before .loop .i) (omega arith), c .before .before .before .before .before .before .before .before .before .before .before .pre .6)
+item-requires c κs =
+    let s : tie.Start Inv-loop μ-loop = c .before .before .before .before .before .before .before .before .before in
+    let h = low s (c .before .before .before .before .loop .i) (omega arith) in
+    (omega (arith, s .pre .6), omega (arith, s .pre .8))
 
-mul-t24 : tie.Need-mul-t24 Inv-loop μ-loop
-mul-t24 c = search needs
+mul-t22 : tie.Need-mul-t22 Inv-loop μ-loop
+mul-t22 c = search needs
 
 element-set-from-o : tie.Need-element-set-from-o Inv-loop μ-loop
 element-set-from-o c = search needs
@@ -84,22 +84,21 @@ loop-less c = omega arith
 loop-again : tie.Need-loop-again Inv-loop μ-loop
 loop-again c =
     let o = c .before .before .before .before .before .loop in
-    let s : tie.Start Inv-loop μ-loop = c .before .before .before .before .before .before .before .before .before .before .before .before in
+    let s : tie.Start Inv-loop μ-loop = c .before .before .before .before .before .before .before .before .before .before in
     let l = s .args .t1 in
     let d = c .before .before .count-of in (
       omega arith,
-      λ ks fs h n e g.
-          items-more (viewOf ks fs) (listOf l) (o .i) nilFactor (o .o) (c .item .result) (omega (arith, listed l (full s) (s .pre .0))) (omega arith) (o .inv .1 ks fs h n e g)
-          (item-of h l (s .args .from) e (o .i) (omega arith) (omega arith) nilFactor (d .result) (c .item .result) (d .ensures ks fs h n (g .ranked))
-          (c .item .ensures ks g (row-there h l (s .args .from) e (o .i) (omega arith) (omega arith)))),
+      λ none ks fs h n e sized ranked basic.
+          items-more (viewOf ks fs) (listOf l) (o .i) nilFactor (o .o) (c .item .result) (omega (arith, listed l (full s) (s .pre .0))) (omega arith) (o .inv .1 none ks fs h n e sized ranked basic)
+          (item-of h l (s .args .from) e (o .i) (omega arith) (omega arith) nilFactor (d .result) (c .item .result) (d .ensures ks fs h n ranked) (s .args .scales .now) sized (s .args .based .now) basic (c .item .ensures)),
     )
 
 returns : tie.Need-returns Inv-loop μ-loop
-returns c ks fs h n e g =
+returns c none ks fs h n e sized ranked basic =
     let o = c .before .loop in
-    let s : tie.Start Inv-loop μ-loop = c .before .before .before .before .before .before .before .before in
+    let s : tie.Start Inv-loop μ-loop = c .before .before .before .before .before .before in
     let l = s .args .t1 in
-    o .inv .1 ks fs h n e g ∙ ap (packItems (viewOf ks fs)) (take-all (o .i) (listOf l) (omega (arith, listed l (full s) (s .pre .0))))
+    o .inv .1 none ks fs h n e sized ranked basic ∙ ap (packItems (viewOf ks fs)) (take-all (o .i) (listOf l) (omega (arith, listed l (full s) (s .pre .0))))
 
 pub items-spec : {M : Type 1} → statement M
 items-spec =
@@ -107,7 +106,6 @@ items-spec =
     (tie.spec
     Inv-loop
     μ-loop
-    no-items-requires
     loop-holds
     mul-f
     element-copy-out-f
@@ -118,7 +116,7 @@ items-spec =
     shared-slice-read-r
     cast-item
     item-requires
-    mul-t24
+    mul-t22
     element-set-from-o
     add-o
     add-i

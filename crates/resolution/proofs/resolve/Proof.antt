@@ -20,7 +20,7 @@ use Rattle.resolution.proofs.resolve.Statement.{statement}
 use Rattle.resolution.proofs.resolve.Tie as tie
 
 abbrev Inv-loop : tie.InvT-loop
-Inv-loop len nums dens scales ranks based a b p n m keys₀ named₀ i₀ keys named i =
+Inv-loop len nums dens scales ranks based none a b p n m keys₀ named₀ i₀ keys named i =
     (i ≤ m)
     × (n ≤ 16)
     × (m ≤ n + 16)
@@ -30,7 +30,7 @@ Inv-loop len nums dens scales ranks based a b p n m keys₀ named₀ i₀ keys n
     × ((ks : List Facts) → len ≡ length ks → Paged ks nums dens scales ranks based → Keyed ks → Named ks (join a b) i named keys)
 
 abbrev μ-loop : tie.MeasureT-loop
-μ-loop len nums dens scales ranks based a b p n m keys₀ named₀ i₀ keys named i = m - i
+μ-loop len nums dens scales ranks based none a b p n m keys₀ named₀ i₀ keys named i = m - i
 
 first-full : (c : tie.Start Inv-loop μ-loop) → length (c .args .t7 .at) ≡ 16
 first-full c = search (needs, unmapped)
@@ -76,7 +76,7 @@ refused-requires : tie.Need-refused-requires Inv-loop μ-loop
 refused-requires c κs = search needs
 
 returns : tie.Need-returns Inv-loop μ-loop
-returns c ks e g h = absurd (omega (arith, h .few))
+returns c none ks e g h = absurd (omega (arith, h .few))
 
 pair-fault-requires : tie.Need-pair-fault-requires Inv-loop μ-loop
 pair-fault-requires c κs = search needs
@@ -85,9 +85,9 @@ refused-requires-2 : tie.Need-refused-requires-2 Inv-loop μ-loop
 refused-requires-2 c κs = search needs
 
 returns-2 : tie.Need-returns-2 Inv-loop μ-loop
-returns-2 c ks e g h =
+returns-2 c none ks e g h =
     let a = c .before .before .before .before .before .before .before .before .args in
-    c .refused2 .ensures
+    c .refused2 .ensures none
     ∙ not-resolved ks (both (a .len) (a .t7) (a .t8)) _ (c .before .before .pair-fault .ensures) (c .before .if2 .taken)
     ∙ ap (λ n. resolvedOf ks (both n (a .t7) (a .t8))) e
 
@@ -134,7 +134,7 @@ refused-requires-3 : tie.Need-refused-requires-3 Inv-loop μ-loop
 refused-requires-3 c κs = search needs
 
 returns-3 : tie.Need-returns-3 Inv-loop μ-loop
-returns-3 c ks e g h =
+returns-3 c none ks e g h =
     let x = c .before .before .before .before in
     let k = c .before .before .before in
     let w = known x ks e g in
@@ -199,7 +199,7 @@ items-requires : tie.Need-items-requires Inv-loop μ-loop
 items-requires c κs =
     let o = c .before .before .before .loop in
     let s : tie.Start Inv-loop μ-loop = c .before .before .before .before .before .before .before .before .before .before .before in
-    (o .inv .1, omega arith, omega arith, o .inv .3, o .inv .4, λ j h. o .inv .5 j (omega arith), s .pre)
+    (o .inv .1, omega arith, omega arith, o .inv .3, o .inv .4, λ j h. o .inv .5 j (omega arith), s .pre .2, s .pre .3, s .pre .4)
 
 slice-aggregate-items-3 : tie.Need-slice-aggregate-items-3 Inv-loop μ-loop
 slice-aggregate-items-3 c = search needs
@@ -211,10 +211,10 @@ items-requires-2 : tie.Need-items-requires-2 Inv-loop μ-loop
 items-requires-2 c κs =
     let o = c .before .before .before .before .before .before .loop in
     let s : tie.Start Inv-loop μ-loop = c .before .before .before .before .before .before .before .before .before .before .before .before .before .before in
-    (omega arith, omega arith, omega arith, o .inv .3, o .inv .4, λ j h. o .inv .5 j (omega arith), s .pre)
+    (omega arith, omega arith, omega arith, o .inv .3, o .inv .4, λ j h. o .inv .5 j (omega arith), s .pre .2, s .pre .3, s .pre .4)
 
 returns-4 : tie.Need-returns-4 Inv-loop μ-loop
-returns-4 c ks e g h =
+returns-4 c none ks e g h =
     let x = c .before .before .before in
     let o = c .before .before .before .before .before .before .before .loop in
     let p : tie.Else2 Inv-loop μ-loop = c .before .before .before .before .before .before .before .before in
@@ -223,7 +223,7 @@ returns-4 c ks e g h =
     let m : o .i ≡ a .t7 .len + a .t8 .len = omega arith in
     let fs = join (a .t7) (a .t8) in
     let all = subst (λ i. Named ks fs i (o .named) (o .keys)) m (o .inv .6 ks e g h) in
-    resolved-by l ks (x .items .result) (c .items2 .result) (x .items .ensures ks fs all (sym (long-join l)) (first-part l) g) (c .items2 .ensures ks fs all (sym (long-join l)) (second-part l) g)
+    resolved-by l ks (x .items .result) (c .items2 .result) (x .items .ensures none ks fs all (sym (long-join l)) (first-part l) (g .sized) (g .ranked) (g .basic)) (c .items2 .ensures none ks fs all (sym (long-join l)) (second-part l) (g .sized) (g .ranked) (g .basic))
     ∙ ap (λ n. resolvedOf ks (both n (a .t7) (a .t8))) e
 
 pub resolve-spec : {M : Type 1} → statement M

@@ -16,6 +16,7 @@ use Rattle.simplification.specs.Steps.{quantityOf}
 use Rattle.simplification.specs.Calls.{fullSimplify}
 use Rattle.simplification.proofs.Marked.{work, by-mark}
 use Rattle.simplification.proofs.Viewed.{simplify-in-table}
+use Rattle.simplification.proofs.Lending.{lends}
 use Rattle.simplification.proofs.full_simplify_over.Statement.{statement}
 use Rattle.simplification.proofs.full_simplify_over.Tie as tie
 
@@ -27,8 +28,8 @@ refused-requires : tie.Need-refused-requires
 refused-requires c κs = search needs
 
 returns : tie.Need-returns
-returns c rows opened =
-    let s = c .before .before .before .args in
+returns c rows opened tells =
+    let s = c .before .before .before .before .args in
     c .refused .ensures
     ∙ unanswered _ _ (refuses-as _ _ _ (beside-none rows (s .q) (s .q .mark) refl) (stopped rows (s .q .unit) (pack []) (s .o) opened (λ ks fs gs. work rows (s .q) (s .q .mark) ks fs) (c .before .if1 .taken)))
 
@@ -36,12 +37,12 @@ simplified-requires : tie.Need-simplified-requires
 simplified-requires c κs = search needs
 
 returns-2 : tie.Need-returns-2
-returns-2 c rows opened =
+returns-2 c rows opened tells =
     let m = c .before .before in
     let d = m .before .before in
-    let s = d .before .before .args in
+    let s = d .before .before .before .args in
     let r = ready rows (s .q .unit) (pack []) (s .o) opened (d .if1 .left) in
-    c .simplified .ensures (seen r) (r .fs) (r .first) (r .first-short) (r .few) (r .first-shaped)
+    c .simplified .ensures (seen r) (lends r (s .nums .now) (s .dens .now) tells) (r .fs) (r .first) (r .first-short) (r .few) (r .first-shaped)
     ∙ ap (λ o. answeredOf (map quantityOf o)) (simplify-in-table r (s .q .value) (r .fs) (firsts r))
     ∙ ap answeredOf (sym (beside-none rows (s .q) true (m .if2 .taken) ∙ goes r (λ ks fs gs. work rows (s .q) true ks fs)))
 
@@ -52,10 +53,10 @@ with-mark-requires : tie.Need-with-mark-requires
 with-mark-requires c κs = search needs
 
 returns-3 : tie.Need-returns-3
-returns-3 c rows opened =
+returns-3 c rows opened tells =
     let m = c .before .before in
     let d = m .before .before in
-    let s = d .before .before .args in
+    let s = d .before .before .before .args in
     let r = ready rows (s .q .unit) (pack []) (s .o) opened (d .if1 .left) in
     c .with-mark .ensures (r .fs) (c .before .factors-of .ensures (seen r) (r .fs) (r .first) (r .first-short))
     ∙ ap answeredOf (sym (beside-none rows (s .q) false (m .if2 .left) ∙ goes r (λ ks fs gs. work rows (s .q) false ks fs)))

@@ -15,8 +15,8 @@ refused-requires c κs = search needs
 
 returns : tie.Need-returns
 unfolding add
-returns c rows opened =
-    let s = c .before .before .before .args in
+returns c rows opened tells =
+    let s = c .before .before .before .before .args in
     c .refused .ensures ∙ unanswered _ _ (sum-stopped rows false (made (s .p .mark) (s .p .value)) (s .q) (s .p) (s .o) opened (c .before .if1 .taken))
 
 is-zero-requires : tie.Need-is-zero-requires
@@ -30,10 +30,10 @@ with-mark-requires c κs = search needs
 
 returns-2 : tie.Need-returns-2
 unfolding add
-returns-2 c rows opened =
+returns-2 c rows opened tells =
     let z = c .before .before .before in
     let d = z .before .before .before .before in
-    let s = d .before .before .args in
+    let s = d .before .before .before .args in
     let r = ready rows (s .q .unit) (s .p .unit) (s .o) opened (d .if1 .left) in
     c .with-mark .ensures (r .gs) (c .before .factors-of .ensures (seen r) (r .gs) (r .second) (r .second-short))
     ∙ ap answeredOf (first-zero rows false (made (s .p .mark) (s .p .value)) (s .q) (s .p) (s .o) r (sym (z .is-zero .ensures) ∙ c .before .before .if2 .taken))
@@ -49,11 +49,11 @@ with-mark-requires-2 c κs = search needs
 
 returns-3 : tie.Need-returns-3
 unfolding add
-returns-3 c rows opened =
+returns-3 c rows opened tells =
     let z = c .before .before .before in
     let w = z .before .before in
     let d = w .before .before .before .before in
-    let s = d .before .before .args in
+    let s = d .before .before .before .args in
     let r = ready rows (s .q .unit) (s .p .unit) (s .o) opened (d .if1 .left) in
     c .with-mark2 .ensures (r .fs) (c .before .factors-of2 .ensures (seen r) (r .fs) (r .first) (r .first-short))
     ∙ ap answeredOf (second-zero rows false (made (s .p .mark) (s .p .value)) (s .q) (s .p) (s .o) r (sym (w .is-zero .ensures) ∙ z .before .if2 .left) (sym (z .is-zero2 .ensures) ∙ c .before .before .if3 .taken))
@@ -63,13 +63,13 @@ nonzero-sum-requires c κs = search needs
 
 returns-4 : tie.Need-returns-4
 unfolding add
-returns-4 c rows opened =
+returns-4 c rows opened tells =
     let z = c .before .before in
     let w = z .before .before in
     let d = w .before .before .before .before in
-    let s = d .before .before .args in
+    let s = d .before .before .before .args in
     let r = ready rows (s .q .unit) (s .p .unit) (s .o) opened (d .if1 .left) in
-    no-zero rows false (made (s .p .mark) (s .p .value)) (s .q) (s .p) (s .o) r (sym (w .is-zero .ensures) ∙ z .before .if2 .left) (c .nonzero-sum .result) (sym (z .is-zero2 .ensures) ∙ c .before .if3 .left) (c .nonzero-sum .ensures)
+    no-zero rows false (made (s .p .mark) (s .p .value)) (s .q) (s .p) (s .o) r (sym (w .is-zero .ensures) ∙ z .before .if2 .left) (s .nums .now) (s .dens .now) tells (c .nonzero-sum .result) (sym (z .is-zero2 .ensures) ∙ c .before .if3 .left) (c .nonzero-sum .ensures)
 
 pub add-over-spec : {M : Type 1} → statement M
 add-over-spec =

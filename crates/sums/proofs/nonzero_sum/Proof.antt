@@ -65,7 +65,7 @@ refused-requires-2 c κs = search needs
 
 returns : tie.Need-returns
 unfolding sums.nonzeroSum
-returns c v fs gs ea eb lf lg ln sf sg =
+returns c v lent fs gs ea eb lf lg ln sf sg =
     let k = c .before .before .before .before .before in
     let same = judged-so (equal (byPlace v) fs gs) _ _ (k .equal .ensures v fs gs ea eb lf lg) (c .before .before .before .enum-told .given .1) in
     c .with-mark .ensures fs (c .before .before .factors-of .ensures v fs ea lf)
@@ -74,43 +74,43 @@ returns c v fs gs ea eb lf lg ln sf sg =
 
 returns-2 : tie.Need-returns-2
 unfolding sums.nonzeroSum
-returns-2 c v fs gs ea eb lf lg ln sf sg =
+returns-2 c v lent fs gs ea eb lf lg ln sf sg =
     let m = c .before .before .before in
     let k = m .before .before .before in
-    let s = k .before .args in
+    let s = k .before .before .args in
     let differ = judged-so (equal (byPlace v) fs gs) _ _ (k .equal .ensures v fs gs ea eb lf lg) (m .before .enum-told2 .given .1) in
     let o = smallerUnit (viewBases v (s .n)) (sizeBy (v .scale)) fs gs in
-    let w = m .smaller-unit .ensures v fs gs ea eb lf lg ln sf sg in
+    let w = m .smaller-unit .ensures v lent fs gs ea eb lf lg ln sf sg in
     let first = chosen-so o _ _ w (c .before .enum-told3 .given .1) in
-    sum-chosen (byPlace v) (viewBases v (s .n)) (sizeBy (v .scale)) (s .minus) (s .x) (s .y) fs gs true (c .together .result) differ first (c .together .ensures v fs gs fs ea eb ea lf lg lf ln sf sg sf)
+    sum-chosen (byPlace v) (viewBases v (s .n)) (sizeBy (v .scale)) (s .minus) (s .x) (s .y) fs gs true (c .together .result) differ first (c .together .ensures v lent fs gs fs ea eb ea lf lg lf ln sf sg sf)
 
 returns-3 : tie.Need-returns-3
 unfolding sums.nonzeroSum
-returns-3 c v fs gs ea eb lf lg ln sf sg =
+returns-3 c v lent fs gs ea eb lf lg ln sf sg =
     let m = c .before .before .before in
     let k = m .before .before .before in
-    let s = k .before .args in
+    let s = k .before .before .args in
     let differ = judged-so (equal (byPlace v) fs gs) _ _ (k .equal .ensures v fs gs ea eb lf lg) (m .before .enum-told2 .given .1) in
     let o = smallerUnit (viewBases v (s .n)) (sizeBy (v .scale)) fs gs in
-    let w = m .smaller-unit .ensures v fs gs ea eb lf lg ln sf sg in
+    let w = m .smaller-unit .ensures v lent fs gs ea eb lf lg ln sf sg in
     let second = chosen-so o _ _ w (c .before .enum-told4 .given .1) in
-    sum-chosen (byPlace v) (viewBases v (s .n)) (sizeBy (v .scale)) (s .minus) (s .x) (s .y) fs gs false (c .together2 .result) differ second (c .together2 .ensures v fs gs gs ea eb eb lf lg lg ln sf sg sg)
+    sum-chosen (byPlace v) (viewBases v (s .n)) (sizeBy (v .scale)) (s .minus) (s .x) (s .y) fs gs false (c .together2 .result) differ second (c .together2 .ensures v lent fs gs gs ea eb eb lf lg lg ln sf sg sg)
 
 returns-4 : tie.Need-returns-4
 unfolding sums.nonzeroSum
-returns-4 c v fs gs ea eb lf lg ln sf sg =
+returns-4 c v lent fs gs ea eb lf lg ln sf sg =
     let m = c .before .before .before .before in
     let k = m .before .before .before in
-    let s = k .before .args in
+    let s = k .before .before .args in
     let differ = judged-so (equal (byPlace v) fs gs) _ _ (k .equal .ensures v fs gs ea eb lf lg) (m .before .enum-told2 .given .1) in
     let o = smallerUnit (viewBases v (s .n)) (sizeBy (v .scale)) fs gs in
-    let w = m .smaller-unit .ensures v fs gs ea eb lf lg ln sf sg in
+    let w = m .smaller-unit .ensures v lent fs gs ea eb lf lg ln sf sg in
     let neither = chosen-so o _ _ w (c .before .before .w .given .1) in
     c .refused .ensures ∙ unanswered _ _ (refuses-as _ _ _ (bind-given _ differ) (bind-refuses o _ _ neither))
 
 returns-5 : tie.Need-returns-5
 unfolding sums.nonzeroSum
-returns-5 c v fs gs ea eb lf lg ln sf sg =
+returns-5 c v lent fs gs ea eb lf lg ln sf sg =
     let k = c .before .before .before .before in
     let unknown = judged-so (equal (byPlace v) fs gs) _ _ (k .equal .ensures v fs gs ea eb lf lg) (c .before .before .e .given .1) in
     c .refused2 .ensures ∙ unanswered _ _ (bind-refuses (equal (byPlace v) fs gs) _ _ unknown)

@@ -39,11 +39,11 @@ refused-requires c κs = search needs
 
 returns : tie.Need-returns
 unfolding sums.together
-returns c v fs gs hs ea eb eu lf lg lh ln sf sg sh =
+returns c v lent fs gs hs ea eb eu lf lg lh ln sf sg sh =
     let k = c .before .before .before .before in
-    let s = k .before .args in
+    let s = k .before .before .args in
     let o = converted v (s .n) fs hs (s .x) in
-    let e = k .convert .ensures v fs hs ea eu lf lh ln sf sh in
+    let e = k .convert .ensures v lent fs hs ea eu lf lh ln sf sh in
     let n = value-refused o (k .convert .result) e _ _ (c .before .before .enum-told .given .1) (c .before .refusal-of .ensures) in
     c .refused .ensures ∙ unanswered _ _ (bind-refuses o _ _ n)
 
@@ -64,16 +64,16 @@ refused-requires-2 c κs = search needs
 
 returns-2 : tie.Need-returns-2
 unfolding sums.together
-returns-2 c v fs gs hs ea eb eu lf lg lh ln sf sg sh =
+returns-2 c v lent fs gs hs ea eb eu lf lg lh ln sf sg sh =
     let k′ = c .before .before .before .before in
     let k = k′ .before .before .before .before in
-    let s = k .before .args in
+    let s = k .before .before .args in
     let o = converted v (s .n) fs hs (s .x) in
-    let e = k .convert .ensures v fs hs ea eu lf lh ln sf sh in
+    let e = k .convert .ensures v lent fs hs ea eu lf lh ln sf sh in
     let y = k′ .before .before .c .given in
     let g = value-given o (k .convert .result) e (y .0 .0) (y .1) in
     let o′ = converted v (s .n) gs hs (s .y) in
-    let e′ = k′ .convert2 .ensures v gs hs eb eu lg lh ln sg sh in
+    let e′ = k′ .convert2 .ensures v lent gs hs eb eu lg lh ln sg sh in
     let n = value-refused o′ (k′ .convert2 .result) e′ _ _ (c .before .before .enum-told2 .given .1) (c .before .refusal-of2 .ensures) in
     c .refused2 .ensures ∙ unanswered _ _ (refuses-as _ _ _ (bind-given _ g) (map-refuses (λ b. fresh (sums.combined (s .minus) (y .0 .0) b) hs) o′ _ n))
 
@@ -88,16 +88,16 @@ with-mark-requires c κs = search needs
 
 returns-3 : tie.Need-returns-3
 unfolding sums.together
-returns-3 c v fs gs hs ea eb eu lf lg lh ln sf sg sh =
+returns-3 c v lent fs gs hs ea eb eu lf lg lh ln sf sg sh =
     let k′ = c .before .before .before .before .before .before in
     let k = k′ .before .before .before .before in
-    let s = k .before .args in
+    let s = k .before .before .args in
     let o = converted v (s .n) fs hs (s .x) in
-    let e = k .convert .ensures v fs hs ea eu lf lh ln sf sh in
+    let e = k .convert .ensures v lent fs hs ea eu lf lh ln sf sh in
     let y = k′ .before .before .c .given in
     let g = value-given o (k .convert .result) e (y .0 .0) (y .1) in
     let o′ = converted v (s .n) gs hs (s .y) in
-    let e′ = k′ .convert2 .ensures v gs hs eb eu lg lh ln sg sh in
+    let e′ = k′ .convert2 .ensures v lent gs hs eb eu lg lh ln sg sh in
     let y′ = c .before .before .before .before .d .given in
     let g′ = value-given o′ (k′ .convert2 .result) e′ (y′ .0 .0) (y′ .1) in
     c .with-mark .ensures hs (c .before .before .factors-of .ensures v hs eu lh)

@@ -1,5 +1,6 @@
 -- `admitted` meets its contract.
 use borrow.Author.Needs.{needs}
+use Rattle.tables.proofs.Telling.{blank-new}
 use Rattle.lists.proofs.opening.admitted.Statement.{statement}
 use Rattle.lists.proofs.opening.admitted.Tie as tie
 
@@ -19,7 +20,7 @@ slice-aggregate-admit-5 : tie.Need-slice-aggregate-admit-5
 slice-aggregate-admit-5 c = search needs
 
 admit-requires : tie.Need-admit-requires
-admit-requires c κs = search needs
+admit-requires c κs = search (needs, blank-new)
 
 returns : tie.Need-returns
 returns c = c .before .before .before .before .before .admit .ensures .0

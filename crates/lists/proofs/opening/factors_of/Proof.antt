@@ -8,7 +8,7 @@ use lib.ListN.{length, take}
 use Rattle.units.specs.Lists.{pack}
 use Rattle.tables.proofs.Terms.{unmapped}
 use Rattle.canonical.proofs.Seen.{len-items}
-use Rattle.lists.proofs.Given.{factorOf, room, pushed, all-factors}
+use Rattle.lists.proofs.Given.{factorOf, pushed, all-factors}
 use Rattle.lists.proofs.opening.factors_of.Statement.{statement}
 use Rattle.lists.proofs.opening.factors_of.Tie as tie
 
@@ -36,12 +36,14 @@ mul-x c = search needs
 element-copy-out-x : tie.Need-element-copy-out-x Inv-loop μ-loop
 element-copy-out-x c = search needs
 
-push-requires : tie.Need-push-requires Inv-loop μ-loop
-push-requires c κs =
-    let k = c .before .before .before .loop in
-    let s : tie.Start Inv-loop μ-loop = c .before .before .before .before .before .before in
-    let full = items-full s in
-    room (s .args .t1 .at) (k .i) (k .o) (omega arith) (k .inv .1)
+mul-f : tie.Need-mul-f Inv-loop μ-loop
+mul-f c = search needs
+
+element-set-from-f : tie.Need-element-set-from-f Inv-loop μ-loop
+element-set-from-f c = search needs
+
+add-o : tie.Need-add-o Inv-loop μ-loop
+add-o c = search needs
 
 add-i : tie.Need-add-i Inv-loop μ-loop
 add-i c = search needs
@@ -51,10 +53,10 @@ loop-less c = omega arith
 
 loop-again : tie.Need-loop-again Inv-loop μ-loop
 loop-again c =
-    let k = c .before .before .before .before .loop in
-    let s : tie.Start Inv-loop μ-loop = c .before .before .before .before .before .before .before in
+    let k = c .before .before .before .loop in
+    let s : tie.Start Inv-loop μ-loop = c .before .before .before .before .before .before in
     let full = items-full s in
-    (omega arith, pushed (s .args .t1 .at) (k .i) _ (k .o) (c .push .result) (omega arith) (k .inv .1) (c .push .ensures))
+    (omega arith, pushed (s .args .t1 .at) (k .i) _ (k .o) (omega arith) (omega arith) (k .inv .1))
 
 returns : tie.Need-returns Inv-loop μ-loop
 returns c v fs e h =
@@ -75,7 +77,9 @@ factors-of-spec =
     loop-holds
     mul-x
     element-copy-out-x
-    push-requires
+    mul-f
+    element-set-from-f
+    add-o
     add-i
     loop-less
     loop-again

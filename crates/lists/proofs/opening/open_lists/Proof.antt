@@ -1,5 +1,6 @@
 -- `open_lists` meets its contract.
 use borrow.Author.Needs.{needs}
+use Rattle.lists.proofs.Ends.{tells-of}
 use Rattle.lists.proofs.opening.open_lists.Statement.{statement}
 use Rattle.lists.proofs.opening.open_lists.Tie as tie
 
@@ -11,12 +12,6 @@ slice-aggregate-admit-2 c = search needs
 
 slice-aggregate-admit-3 : tie.Need-slice-aggregate-admit-3
 slice-aggregate-admit-3 c = search needs
-
-slice-aggregate-admit-4 : tie.Need-slice-aggregate-admit-4
-slice-aggregate-admit-4 c = search needs
-
-slice-aggregate-admit-5 : tie.Need-slice-aggregate-admit-5
-slice-aggregate-admit-5 c = search needs
 
 admit-requires : tie.Need-admit-requires
 admit-requires c κs = search needs
@@ -30,19 +25,20 @@ slice-aggregate-open-over-2 c = search needs
 slice-aggregate-open-over-3 : tie.Need-slice-aggregate-open-over-3
 slice-aggregate-open-over-3 c = search needs
 
-slice-aggregate-open-over-4 : tie.Need-slice-aggregate-open-over-4
-slice-aggregate-open-over-4 c = search needs
-
-slice-aggregate-open-over-5 : tie.Need-slice-aggregate-open-over-5
-slice-aggregate-open-over-5 c = search needs
-
 open-over-requires : tie.Need-open-over-requires
 open-over-requires c κs = search needs
 
+same-length : tie.Need-same-length
+same-length c = search needs
+
+same-length-2 : tie.Need-same-length-2
+same-length-2 c = search needs
+
 returns : tie.Need-returns
 returns c =
-    let t = c .before .before .before .before .before .before .before .before .before .before .before in
-    c .open-over .ensures (t .before .before .before .before .before .before .args .rows) (t .admit .ensures .0) (t .admit .ensures .2)
+    let t = c .before .before .before .before .before .before .before .before .before .before .before .before in
+    let rows = t .before .before .before .before .before .before .before .args .rows in
+    (c .open-over .ensures rows (t .admit .ensures .0) (t .admit .ensures .2), tells-of rows _ _ _ _ _ (t .admit .ensures .2))
 
 pub open-lists-spec : {M : Type 1} → statement M
-open-lists-spec = tie.close (tie.spec slice-aggregate-admit slice-aggregate-admit-2 slice-aggregate-admit-3 slice-aggregate-admit-4 slice-aggregate-admit-5 admit-requires slice-aggregate-open-over slice-aggregate-open-over-2 slice-aggregate-open-over-3 slice-aggregate-open-over-4 slice-aggregate-open-over-5 open-over-requires returns)
+open-lists-spec = tie.close (tie.spec slice-aggregate-admit slice-aggregate-admit-2 slice-aggregate-admit-3 admit-requires slice-aggregate-open-over slice-aggregate-open-over-2 slice-aggregate-open-over-3 open-over-requires same-length same-length-2 returns)

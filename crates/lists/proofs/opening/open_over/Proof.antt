@@ -8,7 +8,7 @@ use Rattle.units.specs.Lists.{both}
 use Rattle.tables.specs.declared.Admitted.{Admitted}
 use Rattle.tables.specs.Rows.{admit, Admission}
 use Rattle.tables.specs.Pages.{Pages, admittedOf}
-use Rattle.resolution.specs.Resolve.{resolvedOf}
+use Rattle.resolution.specs.Resolve.{noItems, resolvedOf}
 use Rattle.resolution.proofs.Keyed.{admit-keyed}
 use Rattle.lists.specs.Opening.{known, baseRows}
 use Rattle.lists.proofs.Checks.{Admits, admitted-by, table-refuses, lists-refuse, table-stops, lists-stop, opens}
@@ -17,7 +17,14 @@ use Rattle.lists.proofs.opening.open_over.Tie as tie
 
 -- what the function starts with, from behind its first test
 abbrev begin : tie.After-struct-known → tie.Start
-begin c = c .before .before .before .before .before
+begin c = c .before .before .before .before .before .before
+
+-- the empty list
+blank : (c : tie.After-struct-known) → c .before .no-items .result ≡ noItems
+blank c = c .before .no-items .ensures
+
+no-items-requires : tie.Need-no-items-requires
+no-items-requires c κs = search needs
 
 unopened-requires : tie.Need-unopened-requires
 unopened-requires c κs = search needs
@@ -25,7 +32,7 @@ unopened-requires c κs = search needs
 returns : tie.Need-returns
 returns c rows e p =
     let s = begin (c .before .before) .args in
-    c .unopened .ensures ∙ table-stops rows (s .a) (s .b) (baseRows rows) _ (table-refuses (baseRows rows) (admit rows) (s .t) e (c .before .if1 .taken))
+    c .unopened .ensures (blank (c .before .before)) ∙ table-stops rows (s .a) (s .b) (baseRows rows) _ (table-refuses (baseRows rows) (admit rows) (s .t) e (c .before .if1 .taken))
 
 resolve-requires : tie.Need-resolve-requires
 resolve-requires c κs = search needs
@@ -38,7 +45,7 @@ module _ (c : tie.After-resolve) (rows : Rows) (e : begin (c .before .before) .a
   resolved : let s = begin (c .before .before) .args in Pages (admit rows) (now (s .nums)) (now (s .dens)) (now (s .scales)) (now (s .ranks)) (now (s .based)) → c .resolve .result ≡ resolvedOf (admits .rows) (both (length (admits .rows)) (s .a) (s .b))
   resolved p =
       let s = begin (c .before .before) .args in
-      c .resolve .ensures (admits .rows) (ap (λ (y : Admitted). y .len) (admits .table)) (subst (λ (a : Admission). Pages a (now (s .nums)) (now (s .dens)) (now (s .scales)) (now (s .ranks)) (now (s .based))) (admits .is) p) (admit-keyed rows (admits .rows) (admits .is))
+      c .resolve .ensures (blank (c .before .before)) (admits .rows) (ap (λ (y : Admitted). y .len) (admits .table)) (subst (λ (a : Admission). Pages a (now (s .nums)) (now (s .dens)) (now (s .scales)) (now (s .ranks)) (now (s .based))) (admits .is) p) (admit-keyed rows (admits .rows) (admits .is))
 
 unopened-requires-2 : tie.Need-unopened-requires-2
 unopened-requires-2 c κs = search needs
@@ -48,7 +55,7 @@ returns-2 c rows e p =
     let r = c .before .before .before in
     let s = begin (r .before .before) .args in
     let k = admits r rows e in
-    c .unopened2 .ensures ∙ lists-stop rows (s .a) (s .b) (baseRows rows) (k .rows) (ap known (k .is)) _ (lists-refuse (k .rows) _ (r .resolve .result) (resolved r rows e p) (c .before .if2 .taken))
+    c .unopened2 .ensures (blank (r .before .before)) ∙ lists-stop rows (s .a) (s .b) (baseRows rows) (k .rows) (ap known (k .is)) _ (lists-refuse (k .rows) _ (r .resolve .result) (resolved r rows e p) (c .before .if2 .taken))
 
 returns-3 : tie.Need-returns-3
 returns-3 c rows e p =
@@ -59,4 +66,4 @@ returns-3 c rows e p =
     opens rows (s .a) (s .b) (baseRows rows) (k .rows) (ap known (k .is)) (r .resolve .result) _ (resolved r rows e p) (d .if2 .left) (ap (λ (y : Admitted). y .slots) (k .table))
 
 pub open-over-spec : {M : Type 1} → statement M
-open-over-spec = tie.close (tie.spec unopened-requires returns resolve-requires unopened-requires-2 returns-2 returns-3)
+open-over-spec = tie.close (tie.spec no-items-requires unopened-requires returns resolve-requires unopened-requires-2 returns-2 returns-3)

@@ -13,7 +13,7 @@ use Rattle.reduction.specs.declared.multiples.Multiple.the-variants as multiple
 use Rattle.lists.specs.Opening.{baseRows}
 use Rattle.lists.specs.Calls.{basesIn, multiple}
 use Rattle.lists.proofs.Checks.{open-by, unopened-by, call-refuses, call-goes, lists-known}
-use Rattle.lists.proofs.Ends.{handed, slots-len, bases-agree}
+use Rattle.lists.proofs.Ends.{handed, slots-len, bases-agree, lent-of}
 use Rattle.lists.proofs.Views.{view}
 use Rattle.lists.proofs.reductions.is_multiple_of_over.Statement.{statement}
 use Rattle.lists.proofs.reductions.is_multiple_of_over.Tie as tie
@@ -23,8 +23,8 @@ work t ks fs gs = isMultiple (basesIn t ks) fs gs
 
 returns : tie.Need-returns
 unfolding multiple
-returns c rows a b e =
-    let s = c .before .before .args in
+returns c rows a b e tells =
+    let s = c .before .before .before .args in
     handed multiples.Refused multipleIs (λ r. refl) _ _ (call-refuses rows a b (work rows) _ (unopened-by (baseRows rows) _ (s .o) e (c .if1 .taken)))
 
 is-multiple-of-requires : tie.Need-is-multiple-of-requires
@@ -32,14 +32,15 @@ is-multiple-of-requires c κs = search needs
 
 returns-2 : tie.Need-returns-2
 unfolding multiple
-returns-2 c rows a b e =
+returns-2 c rows a b e tells =
     let d = c .before .before .before .before in
-    let s = d .before .before .args in
+    let s = d .before .before .before .args in
     let o = open-by (baseRows rows) _ (s .o) e (d .if1 .left) in
     let k = lists-known a b rows (o .are) (o .is) in
+    let lent = lent-of a b rows (o .are) (o .is) _ _ tells in
     let few = slots-few (rowsOf rows) in
     let n = slots-len _ _ (o .slots) in
-    c .is-multiple-of .ensures (view (o .are .rows) (o .are .first) (o .are .second)) (o .are .first) (o .are .second) (o .first) (o .second) (k .first-short) (k .second-short) (omega arith) (k .first-shaped) (k .second-shaped)
+    c .is-multiple-of .ensures (view (o .are .rows) (o .are .first) (o .are .second)) lent (o .are .first) (o .are .second) (o .first) (o .second) (k .first-short) (k .second-short) (omega arith) (k .first-shaped) (k .second-shaped)
     ∙ ap (λ bs. multipleIs (isMultiple bs (o .are .first) (o .are .second))) (bases-agree rows (o .are .rows) (o .are .first ++ o .are .second) _ n)
     ∙ ap multipleIs (sym (call-goes rows a b (work rows) (o .are) (o .is)))
 

@@ -16,7 +16,7 @@ use Rattle.lists.specs.Opening.{baseRows}
 use Rattle.lists.specs.Calls as spec
 use Rattle.lists.specs.Calls.{basesIn}
 use Rattle.lists.proofs.Checks.{open-by, unopened-by, call-refuses, call-goes, with-none, lists-known}
-use Rattle.lists.proofs.Ends.{handed, bases-agree}
+use Rattle.lists.proofs.Ends.{handed, bases-agree, lent-of}
 use Rattle.lists.proofs.Views.{view}
 use Rattle.lists.proofs.reductions.reduce_list_over.Statement.{statement}
 use Rattle.lists.proofs.reductions.reduce_list_over.Tie as tie
@@ -29,8 +29,8 @@ not-reduced-requires c κs = search needs
 
 returns : tie.Need-returns
 unfolding spec.reduction
-returns c rows l e =
-    let s = c .before .before .before .args in
+returns c rows l e tells =
+    let s = c .before .before .before .before .args in
     let r = call-refuses rows l (pack []) (λ ks fs gs. work rows ks fs) _ (unopened-by (baseRows rows) _ (s .o) e (c .before .if1 .taken)) in
     c .not-reduced .ensures ∙ handed notReduced reducedOf (λ r. refl) _ _ r ∙ ap reducedOf (sym (with-none rows l (work rows)))
 
@@ -39,13 +39,14 @@ reduce-list-requires c κs = search needs
 
 returns-2 : tie.Need-returns-2
 unfolding spec.reduction
-returns-2 c rows l e =
+returns-2 c rows l e tells =
     let d = c .before .before .before in
-    let s = d .before .before .args in
+    let s = d .before .before .before .args in
     let o = open-by (baseRows rows) _ (s .o) e (d .if1 .left) in
     let k = lists-known l (pack []) rows (o .are) (o .is) in
+    let lent = lent-of l (pack []) rows (o .are) (o .is) _ _ tells in
     let few = slots-few (rowsOf rows) in
-    c .reduce-list .ensures (view (o .are .rows) (o .are .first) (o .are .second)) (o .are .first) (baseRows rows) (o .first) (o .slots) (k .first-short) (omega arith) (k .first-shaped)
+    c .reduce-list .ensures (view (o .are .rows) (o .are .first) (o .are .second)) lent (o .are .first) (baseRows rows) (o .first) (o .slots) (k .first-short) (omega arith) (k .first-shaped)
     ∙ ap (λ bs. reducedOf (reduction bs (sizeBy (scaleAt (o .are .rows))) (baseRows rows) (o .are .first))) (bases-agree rows (o .are .rows) (o .are .first ++ o .are .second) _ refl)
     ∙ ap reducedOf (sym (with-none rows l (work rows) ∙ call-goes rows l (pack []) (λ ks fs gs. work rows ks fs) (o .are) (o .is)))
 

@@ -15,7 +15,7 @@ use Rattle.lists.specs.Opening.{baseRows}
 use Rattle.lists.specs.Calls as spec
 use Rattle.lists.specs.Calls.{basesIn}
 use Rattle.lists.proofs.Checks.{open-by, unopened-by, call-refuses, call-goes, lists-known}
-use Rattle.lists.proofs.Ends.{handed, first-chosen, second-chosen, neither-chosen, slots-len, bases-agree}
+use Rattle.lists.proofs.Ends.{handed, first-chosen, second-chosen, neither-chosen, slots-len, bases-agree, lent-of}
 use Rattle.lists.proofs.Views.{view}
 use Rattle.lists.proofs.reductions.smaller_unit_over.Statement.{statement}
 use Rattle.lists.proofs.reductions.smaller_unit_over.Tie as tie
@@ -28,8 +28,8 @@ refused-requires c κs = search needs
 
 returns : tie.Need-returns
 unfolding spec.smallerUnit
-returns c rows a b e =
-    let s = c .before .before .before .args in
+returns c rows a b e tells =
+    let s = c .before .before .before .before .args in
     c .refused .ensures ∙ handed refusedBy madeOf (λ r. refl) _ _ (call-refuses rows a b (work rows) _ (unopened-by (baseRows rows) _ (s .o) e (c .before .if1 .taken)))
 
 smaller-unit-requires : tie.Need-smaller-unit-requires
@@ -55,16 +55,17 @@ refused-requires-2 c κs = search needs
 
 returns-2 : tie.Need-returns-2
 unfolding spec.smallerUnit
-returns-2 c rows a b e =
+returns-2 c rows a b e tells =
     let m = c .before .before .before in
     let d = m .before .before .before .before in
-    let s = d .before .before .args in
+    let s = d .before .before .before .args in
     let o = open-by (baseRows rows) _ (s .o) e (d .if1 .left) in
     let k = lists-known a b rows (o .are) (o .is) in
+    let lent = lent-of a b rows (o .are) (o .is) _ _ tells in
     let few = slots-few (rowsOf rows) in
     let n = slots-len _ _ (o .slots) in
     let v = view (o .are .rows) (o .are .first) (o .are .second) in
-    let w = m .smaller-unit .ensures v (o .are .first) (o .are .second) (o .first) (o .second) (k .first-short) (k .second-short) (omega arith) (k .first-shaped) (k .second-shaped)
+    let w = m .smaller-unit .ensures v lent (o .are .first) (o .are .second) (o .first) (o .second) (k .first-short) (k .second-short) (omega arith) (k .first-shaped) (k .second-shaped)
     ∙ ap (λ bs. smallerOf (smallerUnit bs (sizeBy (scaleAt (o .are .rows))) (o .are .first) (o .are .second))) (bases-agree rows (o .are .rows) (o .are .first ++ o .are .second) _ n) in
     let q = smallerUnit (basesIn rows (o .are .rows)) (sizeBy (scaleAt (o .are .rows))) (o .are .first) (o .are .second) in
     let same = sym (call-goes rows a b (work rows) (o .are) (o .is)) in
@@ -72,16 +73,17 @@ returns-2 c rows a b e =
 
 returns-3 : tie.Need-returns-3
 unfolding spec.smallerUnit
-returns-3 c rows a b e =
+returns-3 c rows a b e tells =
     let m = c .before .before .before in
     let d = m .before .before .before .before in
-    let s = d .before .before .args in
+    let s = d .before .before .before .args in
     let o = open-by (baseRows rows) _ (s .o) e (d .if1 .left) in
     let k = lists-known a b rows (o .are) (o .is) in
+    let lent = lent-of a b rows (o .are) (o .is) _ _ tells in
     let few = slots-few (rowsOf rows) in
     let n = slots-len _ _ (o .slots) in
     let v = view (o .are .rows) (o .are .first) (o .are .second) in
-    let w = m .smaller-unit .ensures v (o .are .first) (o .are .second) (o .first) (o .second) (k .first-short) (k .second-short) (omega arith) (k .first-shaped) (k .second-shaped)
+    let w = m .smaller-unit .ensures v lent (o .are .first) (o .are .second) (o .first) (o .second) (k .first-short) (k .second-short) (omega arith) (k .first-shaped) (k .second-shaped)
     ∙ ap (λ bs. smallerOf (smallerUnit bs (sizeBy (scaleAt (o .are .rows))) (o .are .first) (o .are .second))) (bases-agree rows (o .are .rows) (o .are .first ++ o .are .second) _ n) in
     let q = smallerUnit (basesIn rows (o .are .rows)) (sizeBy (scaleAt (o .are .rows))) (o .are .first) (o .are .second) in
     let same = sym (call-goes rows a b (work rows) (o .are) (o .is)) in
@@ -89,16 +91,17 @@ returns-3 c rows a b e =
 
 returns-4 : tie.Need-returns-4
 unfolding spec.smallerUnit
-returns-4 c rows a b e =
+returns-4 c rows a b e tells =
     let m = c .before .before .before .before in
     let d = m .before .before .before .before in
-    let s = d .before .before .args in
+    let s = d .before .before .before .args in
     let o = open-by (baseRows rows) _ (s .o) e (d .if1 .left) in
     let k = lists-known a b rows (o .are) (o .is) in
+    let lent = lent-of a b rows (o .are) (o .is) _ _ tells in
     let few = slots-few (rowsOf rows) in
     let n = slots-len _ _ (o .slots) in
     let v = view (o .are .rows) (o .are .first) (o .are .second) in
-    let w = m .smaller-unit .ensures v (o .are .first) (o .are .second) (o .first) (o .second) (k .first-short) (k .second-short) (omega arith) (k .first-shaped) (k .second-shaped)
+    let w = m .smaller-unit .ensures v lent (o .are .first) (o .are .second) (o .first) (o .second) (k .first-short) (k .second-short) (omega arith) (k .first-shaped) (k .second-shaped)
     ∙ ap (λ bs. smallerOf (smallerUnit bs (sizeBy (scaleAt (o .are .rows))) (o .are .first) (o .are .second))) (bases-agree rows (o .are .rows) (o .are .first ++ o .are .second) _ n) in
     let q = smallerUnit (basesIn rows (o .are .rows)) (sizeBy (scaleAt (o .are .rows))) (o .are .first) (o .are .second) in
     let same = sym (call-goes rows a b (work rows) (o .are) (o .is)) in

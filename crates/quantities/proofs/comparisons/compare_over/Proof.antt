@@ -30,8 +30,8 @@ work t q p ks fs gs = unless (unordered q p) NAN (compared t q p ks fs gs)
 
 returns : tie.Need-returns
 unfolding compare
-returns c rows opened =
-    let s = c .before .before .args in
+returns c rows opened tells =
+    let s = c .before .before .before .args in
     uncompared _ _ (stopped rows (s .q .unit) (s .p .unit) (s .o) opened (work rows (s .q) (s .p)) (c .if1 .taken))
 
 is-nan-requires : tie.Need-is-nan-requires
@@ -42,9 +42,9 @@ is-nan-requires-2 c κs = search needs
 
 returns-2 : tie.Need-returns-2
 unfolding compare
-returns-2 c rows opened =
+returns-2 c rows opened tells =
     let d = c .before .before .before in
-    let s = d .before .before .args in
+    let s = d .before .before .before .args in
     let r = ready rows (s .q .unit) (s .p .unit) (s .o) opened (d .if1 .left) in
     let nan = ap₂ _||_ (sym (c .before .before .is-nan .ensures)) (sym (c .before .is-nan2 .ensures)) ∙ c .if2 .taken in
     uncompared _ _ (refuses-as _ _ _ (goes r (work rows (s .q) (s .p))) (fault-stops (unordered (s .q) (s .p)) NAN (compared rows (s .q) (s .p) (r .ks) (r .fs) (r .gs)) nan))
@@ -63,15 +63,15 @@ refusal-of-requires c κs = search needs
 
 returns-3 : tie.Need-returns-3
 unfolding compare
-returns-3 c rows opened =
+returns-3 c rows opened tells =
     let k = c .before .before .before in
     let f = k .before .before .before .before in
     let d = f .before .before .before in
-    let s = d .before .before .args in
+    let s = d .before .before .before .args in
     let r = ready rows (s .q .unit) (s .p .unit) (s .o) opened (d .if1 .left) in
     let plain = ap₂ _||_ (sym (f .before .before .is-nan .ensures)) (sym (f .before .is-nan2 .ensures)) ∙ f .if2 .left in
     let o = convertIn rows (r .ks) (r .gs) (r .fs) (s .p .value) in
-    let e = back r (s .p .value) (k .convert .result) (k .convert .ensures) in
+    let e = back r (s .nums .now) (s .dens .now) tells (s .p .value) (k .convert .result) (k .convert .ensures) in
     let n = value-refused o (k .convert .result) e _ _ (c .before .enum-told .given .1) (c .refusal-of .ensures) in
     uncompared _ _ (refuses-as _ _ _ (goes r (work rows (s .q) (s .p)) ∙ fault-passes (unordered (s .q) (s .p)) NAN (compared rows (s .q) (s .p) (r .ks) (r .fs) (r .gs)) plain) (bind-refuses o _ _ n))
 
@@ -80,15 +80,15 @@ ordered-requires c κs = search needs
 
 returns-4 : tie.Need-returns-4
 unfolding compare
-returns-4 c rows opened =
+returns-4 c rows opened tells =
     let k = c .before .before .before .before in
     let f = k .before .before .before .before in
     let d = f .before .before .before in
-    let s = d .before .before .args in
+    let s = d .before .before .before .args in
     let r = ready rows (s .q .unit) (s .p .unit) (s .o) opened (d .if1 .left) in
     let plain = ap₂ _||_ (sym (f .before .before .is-nan .ensures)) (sym (f .before .is-nan2 .ensures)) ∙ f .if2 .left in
     let o = convertIn rows (r .ks) (r .gs) (r .fs) (s .p .value) in
-    let e = back r (s .p .value) (k .convert .result) (k .convert .ensures) in
+    let e = back r (s .nums .now) (s .dens .now) tells (s .p .value) (k .convert .result) (k .convert .ensures) in
     let y = value-given o (k .convert .result) e _ (c .before .before .c .given .1) in
     c .ordered .ensures
     ∙ ap comparedOf (sym (goes r (work rows (s .q) (s .p)) ∙ fault-passes (unordered (s .q) (s .p)) NAN (compared rows (s .q) (s .p) (r .ks) (r .fs) (r .gs)) plain ∙ bind-given _ y))

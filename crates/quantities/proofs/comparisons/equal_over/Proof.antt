@@ -21,8 +21,8 @@ work t q p ks fs gs = equalTo (q .value) (convertIn t ks gs fs (p .value))
 
 returns : tie.Need-returns
 unfolding equal
-returns c rows opened =
-    let s = c .before .before .args in
+returns c rows opened tells =
+    let s = c .before .before .before .args in
     undecided _ _ (stopped rows (s .q .unit) (s .p .unit) (s .o) opened (work rows (s .q) (s .p)) (c .if1 .taken))
 
 convert-requires : tie.Need-convert-requires
@@ -33,13 +33,13 @@ is-equal-requires c κs = search needs
 
 returns-2 : tie.Need-returns-2
 unfolding equal
-returns-2 c rows opened =
+returns-2 c rows opened tells =
     let k = c .before in
     let d = k .before .before .before .before in
-    let s = d .before .before .args in
+    let s = d .before .before .before .args in
     let r = ready rows (s .q .unit) (s .p .unit) (s .o) opened (d .if1 .left) in
     c .is-equal .ensures
-    ∙ ap (judgement (s .q .value)) (back r (s .p .value) (k .convert .result) (k .convert .ensures))
+    ∙ ap (judgement (s .q .value)) (back r (s .nums .now) (s .dens .now) tells (s .p .value) (k .convert .result) (k .convert .ensures))
     ∙ judged (s .q .value) (convertIn rows (r .ks) (r .gs) (r .fs) (s .p .value))
     ∙ ap verdictOf (sym (goes r (work rows (s .q) (s .p))))
 

@@ -24,8 +24,8 @@ refused-requires c κs = search needs
 
 returns : tie.Need-returns
 unfolding convertTo
-returns c rows target opened =
-    let s = c .before .before .before .args in
+returns c rows target opened tells =
+    let s = c .before .before .before .before .args in
     c .refused .ensures ∙ unanswered _ _ (stopped rows (s .q .unit) target (s .o) opened (work rows (s .q .value)) (c .before .if1 .taken))
 
 convert-requires : tie.Need-convert-requires
@@ -45,13 +45,13 @@ refused-requires-2 c κs = search needs
 
 returns-2 : tie.Need-returns-2
 unfolding convertTo
-returns-2 c rows target opened =
+returns-2 c rows target opened tells =
     let k = c .before .before .before .before in
     let d = k .before .before .before .before in
-    let s = d .before .before .args in
+    let s = d .before .before .before .args in
     let r = ready rows (s .q .unit) target (s .o) opened (d .if1 .left) in
     let o = convertIn rows (r .ks) (r .fs) (r .gs) (s .q .value) in
-    let e = forth r (s .q .value) (k .convert .result) (k .convert .ensures) in
+    let e = forth r (s .nums .now) (s .dens .now) tells (s .q .value) (k .convert .result) (k .convert .ensures) in
     let f = value-refused o (k .convert .result) e _ _ (c .before .before .enum-told .given .1) (c .before .refusal-of .ensures) in
     c .refused2 .ensures ∙ unanswered _ _ (refuses-as _ _ _ (goes r (work rows (s .q .value))) (map-refuses _ o _ f))
 
@@ -63,13 +63,13 @@ with-mark-requires c κs = search needs
 
 returns-3 : tie.Need-returns-3
 unfolding convertTo
-returns-3 c rows target opened =
+returns-3 c rows target opened tells =
     let k = c .before .before .before .before .before in
     let d = k .before .before .before .before in
-    let s = d .before .before .args in
+    let s = d .before .before .before .args in
     let r = ready rows (s .q .unit) target (s .o) opened (d .if1 .left) in
     let o = convertIn rows (r .ks) (r .fs) (r .gs) (s .q .value) in
-    let e = forth r (s .q .value) (k .convert .result) (k .convert .ensures) in
+    let e = forth r (s .nums .now) (s .dens .now) tells (s .q .value) (k .convert .result) (k .convert .ensures) in
     let g = value-given o (k .convert .result) e _ (c .before .before .before .c .given .1) in
     c .with-mark .ensures (r .gs) (c .before .factors-of .ensures (seen r) (r .gs) (r .second) (r .second-short))
     ∙ ap answeredOf (sym (goes r (work rows (s .q .value)) ∙ ap (map (λ v. fresh v (r .gs))) g))

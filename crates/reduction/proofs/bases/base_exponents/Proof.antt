@@ -19,10 +19,10 @@ finished-requires : tie.Need-finished-requires
 finished-requires c κs = search needs
 
 returns : tie.Need-returns
-returns c v fs gs e f h i k q =
-    let n = c .before .before .before .before .args .n in
-    let first = c .before .before .with-list .ensures v n [] fs e h (some-left factorFault fs gs q) k (c .before .before .before .none-yet .ensures v k) in
-    c .finished .ensures v (fs ++ gs) k (c .before .with-list2 .ensures v n fs gs f i (some-right factorFault fs gs q) k first)
+returns c v lent fs gs e f h i k q =
+    let n = c .before .before .before .before .before .args .n in
+    let first = c .before .before .with-list .ensures v lent n [] fs e h (some-left factorFault fs gs q) k (c .before .before .before .none-yet .ensures v k) in
+    c .finished .ensures v (fs ++ gs) k (c .before .with-list2 .ensures v lent n fs gs f i (some-right factorFault fs gs q) k first)
 
 pub base-exponents-spec : {M : Type 1} → statement M
 base-exponents-spec =

@@ -14,9 +14,9 @@ finished-requires : tie.Need-finished-requires
 finished-requires c κs = search needs
 
 returns : tie.Need-returns
-returns c v fs e h k q =
-    let n = c .before .before .before .args .n in
-    c .finished .ensures v fs k (c .before .with-list .ensures v n [] fs e h q k (c .before .before .none-yet .ensures v k))
+returns c v lent fs e h k q =
+    let n = c .before .before .before .before .args .n in
+    c .finished .ensures v fs k (c .before .with-list .ensures v lent n [] fs e h q k (c .before .before .none-yet .ensures v k))
 
 pub base-of-spec : {M : Type 1} → statement M
 base-of-spec = tie.close (tie.spec none-yet-requires with-list-requires finished-requires returns)

@@ -13,19 +13,19 @@ base-of-requires : tie.Need-base-of-requires
 base-of-requires c κs = search needs
 
 returns : tie.Need-returns
-returns c v fs e h k q =
+returns c v lent fs e h k q =
     let x = c .before .before .base-of in
-    let bs = viewBases v (c .before .before .before .args .n) in
-    scale-range bs (sizeBy (v .scale)) fs _ (exps-refused (base bs fs) (x .result) (x .ensures v fs e h k q) (c .if1 .taken))
+    let bs = viewBases v (c .before .before .before .before .args .n) in
+    scale-range bs (sizeBy (v .scale)) fs _ (exps-refused (base bs fs) (x .result) (x .ensures v lent fs e h k q) (c .if1 .taken))
 
 scale-from-requires : tie.Need-scale-from-requires
 scale-from-requires c κs = search needs
 
 returns-2 : tie.Need-returns-2
-returns-2 c v fs e h k q =
+returns-2 c v lent fs e h k q =
     let x = c .before .before .before .base-of in
-    let bs = viewBases v (c .before .before .before .before .args .n) in
-    let a = exps-given (base bs fs) (x .result) (x .ensures v fs e h k q) (c .before .if1 .left) in
+    let bs = viewBases v (c .before .before .before .before .before .args .n) in
+    let a = exps-given (base bs fs) (x .result) (x .ensures v lent fs e h k q) (c .before .if1 .left) in
     c .scale-from .ensures v fs e h ∙ scale-after bs (sizeBy (v .scale)) fs (a .exps) (a .is)
 
 pub reduced-scale-spec : {M : Type 1} → statement M

@@ -26,31 +26,31 @@ enum-known-x-2 : tie.Need-enum-known-x-2
 enum-known-x-2 c = search needs
 
 returns : tie.Need-returns
-returns c v fs gs e f h i k p q =
+returns c v lent fs gs e f h i k p q =
     let y = c .before .before .before .before in
     let x = y .before .before .before .before in
-    let n = x .before .args .n in
-    first-smaller (viewBases v n) (sizeBy (v .scale)) fs gs _ (sym (x .reduced-scale .ensures v fs e h k p) ∙ y .before .before .x .given .1) _ (sym (y .reduced-scale2 .ensures v gs f i k q) ∙ c .before .before .y .given .1) (c .if1 .taken)
+    let n = x .before .before .args .n in
+    first-smaller (viewBases v n) (sizeBy (v .scale)) fs gs _ (sym (x .reduced-scale .ensures v lent fs e h k p) ∙ y .before .before .x .given .1) _ (sym (y .reduced-scale2 .ensures v lent gs f i k q) ∙ c .before .before .y .given .1) (c .if1 .taken)
 
 returns-2 : tie.Need-returns-2
-returns-2 c v fs gs e f h i k p q =
+returns-2 c v lent fs gs e f h i k p q =
     let y = c .before .before .before .before in
     let x = y .before .before .before .before in
-    let n = x .before .args .n in
-    second-smaller (viewBases v n) (sizeBy (v .scale)) fs gs _ (sym (x .reduced-scale .ensures v fs e h k p) ∙ y .before .before .x .given .1) _ (sym (y .reduced-scale2 .ensures v gs f i k q) ∙ c .before .before .y .given .1) (c .if1 .left)
+    let n = x .before .before .args .n in
+    second-smaller (viewBases v n) (sizeBy (v .scale)) fs gs _ (sym (x .reduced-scale .ensures v lent fs e h k p) ∙ y .before .before .x .given .1) _ (sym (y .reduced-scale2 .ensures v lent gs f i k q) ∙ c .before .before .y .given .1) (c .if1 .left)
 
 returns-3 : tie.Need-returns-3
-returns-3 c v fs gs e f h i k p q =
+returns-3 c v lent fs gs e f h i k p q =
     let y = c .before .before .before in
     let x = y .before .before .before .before in
-    let n = x .before .args .n in
-    second-refused (viewBases v n) (sizeBy (v .scale)) fs gs _ (sym (x .reduced-scale .ensures v fs e h k p) ∙ y .before .before .x .given .1) _ (sym (y .reduced-scale2 .ensures v gs f i k q) ∙ c .before .y2 .given .1)
+    let n = x .before .before .args .n in
+    second-refused (viewBases v n) (sizeBy (v .scale)) fs gs _ (sym (x .reduced-scale .ensures v lent fs e h k p) ∙ y .before .before .x .given .1) _ (sym (y .reduced-scale2 .ensures v lent gs f i k q) ∙ c .before .y2 .given .1)
 
 returns-4 : tie.Need-returns-4
-returns-4 c v fs gs e f h i k p q =
+returns-4 c v lent fs gs e f h i k p q =
     let x = c .before .before .before in
-    let n = x .before .args .n in
-    first-refused (viewBases v n) (sizeBy (v .scale)) fs gs _ (sym (x .reduced-scale .ensures v fs e h k p) ∙ c .before .x2 .given .1)
+    let n = x .before .before .args .n in
+    first-refused (viewBases v n) (sizeBy (v .scale)) fs gs _ (sym (x .reduced-scale .ensures v lent fs e h k p) ∙ c .before .x2 .given .1)
 
 pub smaller-unit-spec : {M : Type 1} → statement M
 smaller-unit-spec =

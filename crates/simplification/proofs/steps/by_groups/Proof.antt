@@ -18,7 +18,7 @@ use Rattle.canonical.proofs.Seen.{len-items}
 use Rattle.values.specs.Quantities.{answeredOf}
 use Rattle.values.proofs.Answered.{unanswered}
 use Rattle.quantities.proofs.Converting.{map-refuses, refuses-as}
-use Rattle.simplification.specs.Rules.{rulesBy}
+use Rattle.simplification.specs.Rules.{rulesBy, Lends}
 use Rattle.simplification.specs.Steps.{quantityOf, byGroups}
 use Rattle.simplification.proofs.Stepping.{goes-on, stays}
 use Rattle.simplification.proofs.Turns.{Along, group, along-none, along-on, along-off, along-unformed, along-end}
@@ -26,17 +26,17 @@ use Rattle.simplification.proofs.steps.by_groups.Statement.{statement}
 use Rattle.simplification.proofs.steps.by_groups.Tie as tie
 
 abbrev Inv-loop : tie.InvT-loop
-Inv-loop refusal x c n m p₀ p = (v : View) (cs : List Factor) → c ≡ packItems v cs → length cs ≤ 16 → n ≤ 16 → some factorFault cs ≡ false → Along v n cs p
+Inv-loop refusal x c n nums dens m p₀ p = (v : View) → Lends v nums dens → (cs : List Factor) → c ≡ packItems v cs → length cs ≤ 16 → n ≤ 16 → some factorFault cs ≡ false → Along v n cs p
 
 abbrev μ-loop : tie.MeasureT-loop
-μ-loop refusal x c n m p₀ p = m - p .next
+μ-loop refusal x c n nums dens m p₀ p = m - p .next
 
 refused-requires : tie.Need-refused-requires Inv-loop μ-loop
 refused-requires c κs = search needs
 
 returns : tie.Need-returns Inv-loop μ-loop
-returns c why v cs er ec lc ln sc =
-    let s = c .before .before .args in
+returns c why v lent cs er ec lc ln sc =
+    let s = c .before .before .before .args in
     c .refused .ensures ∙ unanswered _ _ (map-refuses quantityOf _ _ (stays why (byGroups (rulesBy v (s .n)) (s .x) cs) (s .refusal) er (c .before .if1 .taken)))
 
 capped-requires : tie.Need-capped-requires Inv-loop μ-loop
@@ -46,7 +46,7 @@ stopped-requires : tie.Need-stopped-requires Inv-loop μ-loop
 stopped-requires c κs = search needs
 
 loop-holds : tie.Need-loop-holds Inv-loop μ-loop
-loop-holds c v cs ec lc ln sc = along-none v _ cs _ (c .stopped .ensures)
+loop-holds c v lent cs ec lc ln sc = along-none v _ cs _ (c .stopped .ensures)
 
 with-group-requires : tie.Need-with-group-requires Inv-loop μ-loop
 with-group-requires c κs = omega (arith, c .before .before .before .before .capped .ensures .0)
@@ -55,16 +55,16 @@ refused-requires-2 : tie.Need-refused-requires-2 Inv-loop μ-loop
 refused-requires-2 c κs = search needs
 
 returns-2 : tie.Need-returns-2 Inv-loop μ-loop
-returns-2 c why v cs er ec lc ln sc =
+returns-2 c why v lent cs er ec lc ln sc =
     let wg = c .before .before .before in
     let lp = wg .before .before .before in
     let ca = lp .before .before in
-    let s = ca .before .before .args in
-    let a = lp .loop .inv v cs ec lc ln sc in
+    let s = ca .before .before .before .args in
+    let a = lp .loop .inv v lent cs ec lc ln sc in
     let long = len-items v cs (s .c) ec in
     let same = ca .capped .ensures .1 (omega arith) in
     let r = along-off v (s .n) cs (lp .loop .p) a (omega (arith, wg .before .if2 .taken)) (wg .with-group .result)
-    (wg .with-group .ensures .1 v (a .targets) cs (group (rulesBy v (s .n)) cs (lp .loop .p .next)) (a .unit) ec refl (a .few) lc (omega (arith, wg .before .if2 .taken)) ln sc)
+    (wg .with-group .ensures .1 v lent (a .targets) cs (group (rulesBy v (s .n)) cs (lp .loop .p .next)) (a .unit) ec refl (a .few) lc (omega (arith, wg .before .if2 .taken)) ln sc)
     (s .x) (c .before .if3 .taken) in
     c .refused2 .ensures ∙ unanswered _ _ (map-refuses quantityOf _ _ (refuses-as _ _ _ (goes-on why _ (sym er ∙ ca .before .if1 .left)) r))
 
@@ -72,16 +72,16 @@ loop-less : tie.Need-loop-less Inv-loop μ-loop
 loop-less c = omega (arith, c .before .before .with-group .ensures .0 .0)
 
 loop-again : tie.Need-loop-again Inv-loop μ-loop
-loop-again c v cs ec lc ln sc =
+loop-again c v lent cs ec lc ln sc =
     let wg = c .before .before in
     let lp = wg .before .before .before in
     let ca = lp .before .before in
-    let s = ca .before .before .args in
-    let a = lp .loop .inv v cs ec lc ln sc in
+    let s = ca .before .before .before .args in
+    let a = lp .loop .inv v lent cs ec lc ln sc in
     let long = len-items v cs (s .c) ec in
     let same = ca .capped .ensures .1 (omega arith) in
     along-on v (s .n) cs (lp .loop .p) a (omega (arith, wg .before .if2 .taken)) (wg .with-group .result)
-    (wg .with-group .ensures .1 v (a .targets) cs (group (rulesBy v (s .n)) cs (lp .loop .p .next)) (a .unit) ec refl (a .few) lc (omega (arith, wg .before .if2 .taken)) ln sc)
+    (wg .with-group .ensures .1 v lent (a .targets) cs (group (rulesBy v (s .n)) cs (lp .loop .p .next)) (a .unit) ec refl (a .few) lc (omega (arith, wg .before .if2 .taken)) ln sc)
     (c .if3 .left)
 
 merged-requires : tie.Need-merged-requires Inv-loop μ-loop
@@ -91,12 +91,12 @@ refused-requires-3 : tie.Need-refused-requires-3 Inv-loop μ-loop
 refused-requires-3 c κs = search needs
 
 returns-3 : tie.Need-returns-3 Inv-loop μ-loop
-returns-3 c why v cs er ec lc ln sc =
+returns-3 c why v lent cs er ec lc ln sc =
     let ka = c .before .before .before in
     let lp = ka .before .before .before .before in
     let ca = lp .before .before in
-    let s = ca .before .before .args in
-    let a = lp .loop .inv v cs ec lc ln sc in
+    let s = ca .before .before .before .args in
+    let a = lp .loop .inv v lent cs ec lc ln sc in
     let long = len-items v cs (s .c) ec in
     let same = ca .capped .ensures .1 (omega arith) in
     let e = ka .merged .ensures v (a .targets) (a .unit) (omega (arith, a .few, a .within)) in
@@ -110,14 +110,14 @@ with-mark-requires : tie.Need-with-mark-requires Inv-loop μ-loop
 with-mark-requires c κs = search needs
 
 returns-4 : tie.Need-returns-4 Inv-loop μ-loop
-returns-4 c why v cs er ec lc ln sc =
+returns-4 c why v lent cs er ec lc ln sc =
     let fo = c .before .before in
     let no = fo .before .before in
     let ka = no .before .before in
     let lp = ka .before .before .before .before in
     let ca = lp .before .before in
-    let s = ca .before .before .args in
-    let a = lp .loop .inv v cs ec lc ln sc in
+    let s = ca .before .before .before .args in
+    let a = lp .loop .inv v lent cs ec lc ln sc in
     let long = len-items v cs (s .c) ec in
     let same = ca .capped .ensures .1 (omega arith) in
     let e = ka .merged .ensures v (a .targets) (a .unit) (omega (arith, a .few, a .within)) in

@@ -34,12 +34,12 @@ further-requires c κs = search needs
 
 returns : tie.Need-returns
 unfolding simplify some
-returns c v fs el lf ln sf =
+returns c v lent fs el lf ln sf =
     let k = c .before .before .before .before in
-    let s = k .before .before .args in
-    let e = k .convert .ensures v fs [] el (k .before .no-items .ensures ∙ no-items v) lf (omega arith) ln sf refl in
+    let s = k .before .before .before .args in
+    let e = k .convert .ensures v (lent .0) fs [] el (k .before .no-items .ensures ∙ no-items v) lf (omega arith) ln sf refl in
     let r = value-refused (convertBy (rulesBy v (s .n)) fs [] (s .x)) (k .convert .result) e _ _ (c .before .before .enum-told .given .1) (c .before .refusal-of .ensures) in
-    c .further .ensures (r .why) v fs (sym (r .numbered)) el lf ln sf
+    c .further .ensures (r .why) v lent fs (sym (r .numbered)) el lf ln sf
     ∙ ap (λ o. answeredOf (map quantityOf o)) (sym (attempt-refused [] (further (rulesBy v (s .n)) (s .x) fs) (r .why) (r .is)))
 
 empty-requires : tie.Need-empty-requires
@@ -50,11 +50,11 @@ with-mark-requires c κs = search needs
 
 returns-2 : tie.Need-returns-2
 unfolding simplify some
-returns-2 c v fs el lf ln sf =
+returns-2 c v lent fs el lf ln sf =
     let y = c .before .before .before in
     let k = y .before .before in
-    let s = k .before .before .args in
-    let e = k .convert .ensures v fs [] el (k .before .no-items .ensures ∙ no-items v) lf (omega arith) ln sf refl in
+    let s = k .before .before .before .args in
+    let e = k .convert .ensures v (lent .0) fs [] el (k .before .no-items .ensures ∙ no-items v) lf (omega arith) ln sf refl in
     let z = y .y .given in
     let g = value-given (convertBy (rulesBy v (s .n)) fs [] (s .x)) (k .convert .result) e (z .0 .0) (z .1) in
     c .with-mark .ensures [] (c .before .empty .ensures)

@@ -15,10 +15,10 @@ by-groups-requires : tie.Need-by-groups-requires
 by-groups-requires c κs = search needs
 
 returns : tie.Need-returns
-returns c v fs ms cs el et ec lf lm lc ln sf sm sc =
-    let s = c .before .before .before .args in
+returns c v lent fs ms cs el et ec lf lm lc ln sf sm sc =
+    let s = c .before .before .before .before .args in
     let next = byGroups (rulesBy v (s .n)) (s .x) cs in
-    c .by-groups .ensures UNITS v cs refl ec lc ln sc
+    c .by-groups .ensures UNITS v lent cs refl ec lc ln sc
     ∙ ap (λ o. answeredOf (map quantityOf o)) (goes-on UNITS next refl ∙ sym (toward-nothing (rulesBy v (s .n)) (s .x) fs ms next (sym (len-items v ms (s .t) et) ∙ c .before .if1 .taken)))
 
 convert-requires : tie.Need-convert-requires
@@ -37,13 +37,13 @@ by-groups-requires-2 : tie.Need-by-groups-requires-2
 by-groups-requires-2 c κs = search needs
 
 returns-2 : tie.Need-returns-2
-returns-2 c v fs ms cs el et ec lf lm lc ln sf sm sc =
+returns-2 c v lent fs ms cs el et ec lf lm lc ln sf sm sc =
     let k = c .before .before .before .before in
-    let s = k .before .before .before .args in
+    let s = k .before .before .before .before .args in
     let next = byGroups (rulesBy v (s .n)) (s .x) cs in
-    let e = k .convert .ensures v fs ms el et lf lm ln sf sm in
+    let e = k .convert .ensures v (lent .0) fs ms el et lf lm ln sf sm in
     let r = value-refused (convertBy (rulesBy v (s .n)) fs ms (s .x)) (k .convert .result) e _ _ (c .before .before .enum-told .given .1) (c .before .refusal-of .ensures) in
-    c .by-groups2 .ensures (r .why) v cs (sym (r .numbered)) ec lc ln sc
+    c .by-groups2 .ensures (r .why) v lent cs (sym (r .numbered)) ec lc ln sc
     ∙ ap (λ o. answeredOf (map quantityOf o)) (sym (toward-one (rulesBy v (s .n)) (s .x) fs ms next (λ z. k .before .if1 .left (len-items v ms (s .t) et ∙ z)) ∙ attempt-refused ms next (r .why) (r .is)))
 
 factors-of-requires : tie.Need-factors-of-requires
@@ -53,12 +53,12 @@ with-mark-requires : tie.Need-with-mark-requires
 with-mark-requires c κs = search needs
 
 returns-3 : tie.Need-returns-3
-returns-3 c v fs ms cs el et ec lf lm lc ln sf sm sc =
+returns-3 c v lent fs ms cs el et ec lf lm lc ln sf sm sc =
     let y = c .before .before .before in
     let k = y .before .before in
-    let s = k .before .before .before .args in
+    let s = k .before .before .before .before .args in
     let next = byGroups (rulesBy v (s .n)) (s .x) cs in
-    let e = k .convert .ensures v fs ms el et lf lm ln sf sm in
+    let e = k .convert .ensures v (lent .0) fs ms el et lf lm ln sf sm in
     let z = y .y .given in
     let g = value-given (convertBy (rulesBy v (s .n)) fs ms (s .x)) (k .convert .result) e (z .0 .0) (z .1) in
     c .with-mark .ensures ms (c .before .factors-of .ensures v ms et lm)

@@ -17,7 +17,7 @@ use Rattle.canonical.proofs.Judged.{unformed}
 use Rattle.canonical.proofs.Keeping.{each-faultless, Kept, kept-with}
 use Rattle.quantities.proofs.Converting.{value-given, value-refused}
 use Rattle.targets.specs.Groups.{leading, target}
-use Rattle.simplification.specs.Rules.{rulesBy, convertBy}
+use Rattle.simplification.specs.Rules.{rulesBy, Lends, convertBy}
 use Rattle.simplification.specs.Steps.{grown}
 use Rattle.simplification.specs.declared.steps.Progress.{Progress}
 use Rattle.targets.proofs.Within.{target-within}
@@ -27,15 +27,15 @@ use Rattle.simplification.proofs.steps.with_group.Statement.{statement}
 use Rattle.simplification.proofs.steps.with_group.Tie as tie
 
 -- the group, and its target where there is one
-at-group : (d : tie.After-group-at) (v : View) (cs gs : List Factor) → d .before .args .c ≡ packItems v cs → gs ≡ leading (rulesBy v (d .before .args .n) .alike) (drop (d .before .args .p .next) cs) → length cs ≤ 16 → d .before .args .p .next < length cs → some factorFault cs ≡ false → Taken v gs (d .group-at .result)
-at-group d v cs gs ec eg lc lp sc = taken v (d .before .args .n) (d .before .args .p .next) cs gs (d .group-at .result) (d .group-at .ensures .0 .1) (d .group-at .ensures .1 v cs ec lc lp) eg sc
+at-group : (d : tie.After-group-at) (v : View) (cs gs : List Factor) → d .before .before .args .c ≡ packItems v cs → gs ≡ leading (rulesBy v (d .before .before .args .n) .alike) (drop (d .before .before .args .p .next) cs) → length cs ≤ 16 → d .before .before .args .p .next < length cs → some factorFault cs ≡ false → Taken v gs (d .group-at .result)
+at-group d v cs gs ec eg lc lp sc = taken v (d .before .before .args .n) (d .before .before .args .p .next) cs gs (d .group-at .result) (d .group-at .ensures .0 .1) (d .group-at .ensures .1 v cs ec lc lp) eg sc
 
-with-target : (d : tie.Else1) (v : View) (gs : List Factor) → Taken v gs (d .before .before .before .before .group-at .result) → d .before .before .before .before .before .args .n ≤ 16 →
-    Lone v (target (viewBases v (d .before .before .before .before .before .args .n)) (v .base) (λ a. first (v .exps a)) gs) (d .before .before .target-of .result)
-with-target d v gs g ln =
-    let bs = viewBases v (d .before .before .before .before .before .args .n) in
+with-target : (d : tie.Else1) (v : View) → Lends v (d .before .before .before .before .before .before .args .nums .now) (d .before .before .before .before .before .before .args .dens .now) → (gs : List Factor) → Taken v gs (d .before .before .before .before .group-at .result) → d .before .before .before .before .before .before .args .n ≤ 16 →
+    Lone v (target (viewBases v (d .before .before .before .before .before .before .args .n)) (v .base) (λ a. first (v .exps a)) gs) (d .before .before .target-of .result)
+with-target d v lent gs g ln =
+    let bs = viewBases v (d .before .before .before .before .before .before .args .n) in
     lone v (target bs (v .base) (λ a. first (v .exps a)) gs) (d .before .before .target-of .result) (target-within Kept kept-with bs (v .base) (λ a. first (v .exps a)) gs (each-faultless factorFault gs (g .kept)))
-    (d .before .before .target-of .ensures v gs (g .list) (g .short) ln (g .kept)) (d .if1 .left)
+    (d .before .before .target-of .ensures v (lent .0) (lent .1) gs (g .list) (g .short) ln (g .kept)) (d .if1 .left)
 
 group-at-requires : tie.Need-group-at-requires
 group-at-requires c κs = search needs
@@ -54,13 +54,13 @@ returns c =
     let ta = c .before .before .before in
     let ga = ta .before .before in
     let to = ap (λ (y : Progress). y .next) (c .stopped .ensures) in (
-      (omega (arith, ga .group-at .ensures .0 .0), omega (arith, ga .before .pre, ga .group-at .ensures .0 .1)),
-      λ v us cs gs eu ec eg lu lc lp ln sc.
-          let s = ga .before .args in
+      (omega (arith, ga .group-at .ensures .0 .0), omega (arith, ga .before .before .pre, ga .group-at .ensures .0 .1)),
+      λ v lent us cs gs eu ec eg lu lc lp ln sc.
+          let s = ga .before .before .args in
           let g = at-group ga v cs gs ec eg lc lp sc in
           halted v (grown (rulesBy v (s .n)) (s .p .factor) us gs) _ _ _ _ (c .stopped .ensures) (ap (λ k. s .p .next + k) (g .long))
           (target-stops (rulesBy v (s .n)) (s .p .factor) us gs _
-          (unformed v (target (viewBases v (s .n)) (v .base) (λ a. first (v .exps a)) gs) (ta .target-of .result) (ta .target-of .ensures v gs (g .list) (g .short) ln (g .kept)) (c .before .if1 .taken))),
+          (unformed v (target (viewBases v (s .n)) (v .base) (λ a. first (v .exps a)) gs) (ta .target-of .result) (ta .target-of .ensures v (lent .0) (lent .1) gs (g .list) (g .short) ln (g .kept)) (c .before .if1 .taken))),
     )
 
 convert-requires : tie.Need-convert-requires
@@ -84,12 +84,12 @@ returns-2 c =
     let no = cv .before .before in
     let ga = no .before .before .before .before in
     let to = ap (λ (y : Progress). y .next) (c .stopped2 .ensures) in (
-      (omega (arith, ga .group-at .ensures .0 .0), omega (arith, ga .before .pre, ga .group-at .ensures .0 .1)),
-      λ v us cs gs eu ec eg lu lc lp ln sc.
-          let s = ga .before .args in
+      (omega (arith, ga .group-at .ensures .0 .0), omega (arith, ga .before .before .pre, ga .group-at .ensures .0 .1)),
+      λ v lent us cs gs eu ec eg lu lc lp ln sc.
+          let s = ga .before .before .args in
           let g = at-group ga v cs gs ec eg lc lp sc in
-          let t = with-target no v gs g ln in
-          let e = cv .convert .ensures v gs (t .answer) (g .list) (t .list) (g .short) (omega (arith, t .short)) ln (g .kept) (t .kept) in
+          let t = with-target no v lent gs g ln in
+          let e = cv .convert .ensures v (lent .0) gs (t .answer) (g .list) (t .list) (g .short) (omega (arith, t .short)) ln (g .kept) (t .kept) in
           let k = value-refused (convertBy (rulesBy v (s .n)) gs (t .answer) one) (cv .convert .result) e _ _ (c .before .before .enum-told .given .1) (c .before .refusal-of .ensures) in
           halted v (grown (rulesBy v (s .n)) (s .p .factor) us gs) _ _ _ _ (c .stopped2 .ensures) (ap (λ k. s .p .next + k) (g .long))
           (conversion-stops (rulesBy v (s .n)) (s .p .factor) us gs (t .answer) (t .is) _ k),
@@ -104,16 +104,16 @@ returns-3 c =
     let cv = kt .before .before .before in
     let no = cv .before .before in
     let ga = no .before .before .before .before in (
-      (omega (arith, ga .group-at .ensures .0 .0), omega (arith, ga .before .pre, ga .group-at .ensures .0 .1)),
-      λ v us cs gs eu ec eg lu lc lp ln sc.
-          let s = ga .before .args in
+      (omega (arith, ga .group-at .ensures .0 .0), omega (arith, ga .before .before .pre, ga .group-at .ensures .0 .1)),
+      λ v lent us cs gs eu ec eg lu lc lp ln sc.
+          let s = ga .before .before .args in
           let g = at-group ga v cs gs ec eg lc lp sc in
-          let t = with-target no v gs g ln in
-          let e = cv .convert .ensures v gs (t .answer) (g .list) (t .list) (g .short) (omega (arith, t .short)) ln (g .kept) (t .kept) in
+          let t = with-target no v lent gs g ln in
+          let e = cv .convert .ensures v (lent .0) gs (t .answer) (g .list) (t .list) (g .short) (omega (arith, t .short)) ln (g .kept) (t .kept) in
           let y = kt .before .y .given in
           let z = value-given (convertBy (rulesBy v (s .n)) gs (t .answer) one) (cv .convert .result) e (y .0 .0) (y .1) in
           moved v (grown (rulesBy v (s .n)) (s .p .factor) us gs) _ _ (mul ieee.binary64 (s .p .factor) (y .0 .0)) (us ++ t .answer) _
-          (c .before .joined .ensures v us (t .answer) eu (t .list) (omega (arith, ga .before .pre, t .short)))
+          (c .before .joined .ensures v us (t .answer) eu (t .list) (omega (arith, ga .before .before .pre, t .short)))
           (ap (λ k. s .p .next + k) (g .long))
           (group-done (rulesBy v (s .n)) (s .p .factor) us gs (t .answer) (t .is) (y .0 .0) z),
     )

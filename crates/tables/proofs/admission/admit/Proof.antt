@@ -63,13 +63,13 @@ returns c =
     let s : tie.Start Inv-loop μ-loop = c .before .before .before .before .before .before in
     let all = slots (rowsOf (s .args .t1)) in
     let is : admit (s .args .t1) ≡ stopped TABLE [] = over (s .args .t1) (c .before .if1 .taken) in
-    (c .refused .ensures ∙ sym (ap (admittedOf all) is), s .pre, subst (λ (a : Admission). Pages a (s .args .nums .now) (s .args .dens .now) (s .args .scales .now) (s .args .ranks .now) (s .args .based .now)) (sym is) tt)
+    (c .refused .ensures ∙ sym (ap (admittedOf all) is), s .pre .0, subst (λ (a : Admission). Pages a (s .args .nums .now) (s .args .dens .now) (s .args .scales .now) (s .args .ranks .now) (s .args .based .now)) (sym is) tt)
 
 slots-of-requires : tie.Need-slots-of-requires Inv-loop μ-loop
 slots-of-requires c κs = search needs
 
 loop-holds : tie.Need-loop-holds Inv-loop μ-loop
-loop-holds c = let s : tie.Start Inv-loop μ-loop = c .before .before .before .before .before .before in (omega arith, s .pre, admitting-none (slots (rowsOf (s .args .t1))) (rowsOf (s .args .t1)) _ _ _ _ _)
+loop-holds c = let s : tie.Start Inv-loop μ-loop = c .before .before .before .before .before .before in (omega arith, s .pre .0, admitting-none (slots (rowsOf (s .args .t1))) (rowsOf (s .args .t1)) _ _ _ _ _ (s .pre .1))
 
 mul-taken : tie.Need-mul-taken Inv-loop μ-loop
 mul-taken c = search needs
@@ -92,19 +92,19 @@ refused-requires-2 : tie.Need-refused-requires-2 Inv-loop μ-loop
 refused-requires-2 c κs = search needs
 
 same-length : tie.Need-same-length Inv-loop μ-loop
-same-length c = let q = row (c .before .before) in q .admit-row .ensures .0 .0 ∙ sym (start (turn q) .pre .0)
+same-length c = let q = row (c .before .before) in q .admit-row .ensures .0 .0 ∙ sym (start (turn q) .pre .0 .0)
 
 same-length-2 : tie.Need-same-length-2 Inv-loop μ-loop
-same-length-2 c = let q = row (c .before .before) in q .admit-row .ensures .0 .1 ∙ sym (start (turn q) .pre .1)
+same-length-2 c = let q = row (c .before .before) in q .admit-row .ensures .0 .1 ∙ sym (start (turn q) .pre .0 .1)
 
 same-length-3 : tie.Need-same-length-3 Inv-loop μ-loop
-same-length-3 c = let q = row (c .before .before) in q .admit-row .ensures .0 .2 ∙ sym (start (turn q) .pre .2)
+same-length-3 c = let q = row (c .before .before) in q .admit-row .ensures .0 .2 ∙ sym (start (turn q) .pre .0 .2)
 
 same-length-4 : tie.Need-same-length-4 Inv-loop μ-loop
-same-length-4 c = let q = row (c .before .before) in q .admit-row .ensures .0 .3 ∙ sym (start (turn q) .pre .3)
+same-length-4 c = let q = row (c .before .before) in q .admit-row .ensures .0 .3 ∙ sym (start (turn q) .pre .0 .3)
 
 same-length-5 : tie.Need-same-length-5 Inv-loop μ-loop
-same-length-5 c = let q = row (c .before .before) in q .admit-row .ensures .0 .4 ∙ sym (start (turn q) .pre .4)
+same-length-5 c = let q = row (c .before .before) in q .admit-row .ensures .0 .4 ∙ sym (start (turn q) .pre .0 .4)
 
 returns-2 : tie.Need-returns-2 Inv-loop μ-loop
 returns-2 c =
@@ -140,19 +140,19 @@ loop-again c =
     (omega arith, q .admit-row .ensures .0, more)
 
 same-length-6 : tie.Need-same-length-6 Inv-loop μ-loop
-same-length-6 c = c .before .loop .inv .1 .0 ∙ sym (start (c .before) .pre .0)
+same-length-6 c = c .before .loop .inv .1 .0 ∙ sym (start (c .before) .pre .0 .0)
 
 same-length-7 : tie.Need-same-length-7 Inv-loop μ-loop
-same-length-7 c = c .before .loop .inv .1 .1 ∙ sym (start (c .before) .pre .1)
+same-length-7 c = c .before .loop .inv .1 .1 ∙ sym (start (c .before) .pre .0 .1)
 
 same-length-8 : tie.Need-same-length-8 Inv-loop μ-loop
-same-length-8 c = c .before .loop .inv .1 .2 ∙ sym (start (c .before) .pre .2)
+same-length-8 c = c .before .loop .inv .1 .2 ∙ sym (start (c .before) .pre .0 .2)
 
 same-length-9 : tie.Need-same-length-9 Inv-loop μ-loop
-same-length-9 c = c .before .loop .inv .1 .3 ∙ sym (start (c .before) .pre .3)
+same-length-9 c = c .before .loop .inv .1 .3 ∙ sym (start (c .before) .pre .0 .3)
 
 same-length-10 : tie.Need-same-length-10 Inv-loop μ-loop
-same-length-10 c = c .before .loop .inv .1 .4 ∙ sym (start (c .before) .pre .4)
+same-length-10 c = c .before .loop .inv .1 .4 ∙ sym (start (c .before) .pre .0 .4)
 
 returns-3 : tie.Need-returns-3 Inv-loop μ-loop
 returns-3 c =

@@ -24,17 +24,17 @@ use Rattle.targets.proofs.single.first_multiple.Statement.{statement}
 use Rattle.targets.proofs.single.first_multiple.Tie as tie
 
 abbrev Inv-loop : tie.InvT-loop
-Inv-loop n c x m k none one hit₀ power₀ i y w all₀ s₀ hit power all s =
+Inv-loop n nums dens c x m k none one hit₀ power₀ i y w all₀ s₀ hit power all s =
     (s ≤ 16) × (hit ≡ hit₀) × (power ≡ power₀) × (s ≡ 16 → (all && eqb (w .den) 1) ≡ false) × (faulty w ≡ false → fitsFrom all (drop s x) (drop s y) w ≡ fits x y w)
 
 abbrev μ-loop : tie.MeasureT-loop
-μ-loop n c x m k none one hit₀ power₀ i y w all₀ s₀ hit power all s = 16 - s
+μ-loop n nums dens c x m k none one hit₀ power₀ i y w all₀ s₀ hit power all s = 16 - s
 
 abbrev Inv-factors : tie.InvT-factors
-Inv-factors n c x m k none one hit₀ power₀ i₀ hit power i = (i ≤ m) × (hit ≡ m) × (power ≡ unit) × ((v : View) (cs : List Factor) (xs : List Exponent) → Had v n c x cs xs → from v n cs i ≡ whole v n cs)
+Inv-factors n nums dens c x m k none one hit₀ power₀ i₀ hit power i = (i ≤ m) × (hit ≡ m) × (power ≡ unit) × ((v : View) (cs : List Factor) (xs : List Exponent) → Had v n nums dens c x cs xs → from v n cs i ≡ whole v n cs)
 
 abbrev μ-factors : tie.MeasureT-factors
-μ-factors n c x m k none one hit₀ power₀ i₀ hit power i = m - i
+μ-factors n nums dens c x m k none one hit₀ power₀ i₀ hit power i = m - i
 
 -- ---- places on the way: at the outer loop; with a factor's base exponents, which differ; with the quotient; at the inner loop, and behind its products
 abbrev AtFactors : Type 0
@@ -81,7 +81,7 @@ factorsOf c = c .before .before .before .before .before
 
 -- the list's base exponents, the factor's, and the quotient
 abbrev xOf : Differs → List Exponent
-xOf c = factorsOf (baseOf c) .before .before .before .args .t2
+xOf c = factorsOf (baseOf c) .before .before .before .before .args .t2
 
 abbrev yOf : Differs → List Exponent
 yOf c = baseOf c .before .base-of-item .result .at
@@ -100,25 +100,25 @@ long-y c = long-base (baseOf c)
 
 -- ---- one turn
 abbrev HadAt : AtFactors → View → List Factor → List Exponent → Type 0
-HadAt f v cs xs = Had v (f .before .before .before .args .n) (f .before .before .before .args .t1) (f .before .before .before .args .t2) cs xs
+HadAt f v cs xs = Had v (f .before .before .before .before .args .n) (f .before .before .before .before .args .nums .now) (f .before .before .before .before .args .dens .now) (f .before .before .before .before .args .t1) (f .before .before .before .before .args .t2) cs xs
 
 abbrev One : AtFactors → View → List Factor → ℕ → Exponent → Type 0
-One f v cs i q = whole v (f .before .before .before .args .n) cs ≡ given (single cs i q ∷ [])
+One f v cs i q = whole v (f .before .before .before .before .args .n) cs ≡ given (single cs i q ∷ [])
 
 module _ (v : View) (cs : List Factor) (xs : List Exponent) where
   long : (f : AtFactors) → HadAt f v cs xs → f .before .before .capped .result ≡ length cs
   long f g =
-      let n = items-len v (f .before .before .before .args .t1) cs (g .list) in
+      let n = items-len v (f .before .before .before .before .args .t1) cs (g .list) in
       f .before .before .capped .ensures .1 (omega (arith, g .short)) ∙ n
 
-  turn : (c : Based) → HadAt (factorsOf c) v cs xs → Turn v (factorsOf c .before .before .before .args .n) cs (factorsOf c .factors .i) (c .before .base-of-item .result)
+  turn : (c : Based) → HadAt (factorsOf c) v cs xs → Turn v (factorsOf c .before .before .before .before .args .n) cs (factorsOf c .factors .i) (c .before .base-of-item .result)
   turn c g =
       let f = factorsOf c in
       let h : f .factors .i < length cs = omega (arith, long f g) in
       record {
         so-far = f .factors .inv .3 v cs xs g;
         here = h;
-        is = c .before .base-of-item .ensures v (single cs (f .factors .i) unit) (item-is g (f .factors .i) nilItem _ unit h (c .before .before .at-exponent .ensures)) unit-rule (g .rows);
+        is = c .before .base-of-item .ensures v (g .lent) (single cs (f .factors .i) unit) (item-is g (f .factors .i) nilItem _ unit h (c .before .before .at-exponent .ensures)) unit-rule (g .rows);
       }
 
 apart : (c : Differs) → sameAll (xOf c) (yOf c) ≡ false
@@ -162,12 +162,12 @@ module _ (v : View) (cs : List Factor) (xs : List Exponent) where
 
   -- none fits, or the one at `hit` to `power`
   after : (c : Left) → HadAt (c .before) v cs xs
-      → ((c .factors-test .hit ≡ c .before .before .before .capped .result) × (whole v (c .before .before .before .before .args .n) cs ≡ given []))
+      → ((c .factors-test .hit ≡ c .before .before .before .capped .result) × (whole v (c .before .before .before .before .before .args .n) cs ≡ given []))
       ⊎ ((c .factors-test .hit < c .before .before .before .capped .result) × One (c .before) v cs (c .factors-test .hit) (c .factors-test .power))
   after c g =
       let f : AtFactors = c .before in
       ⊎-elim
-      (λ w. inl (w .1 ∙ f .factors .inv .1, none-left v (f .before .before .before .args .n) cs (f .factors .i) (f .factors .inv .3 v cs xs g) (omega (arith, w .0 .left, long v cs xs f g))))
+      (λ w. inl (w .1 ∙ f .factors .inv .1, none-left v (f .before .before .before .before .args .n) cs (f .factors .i) (f .factors .inv .3 v cs xs g) (omega (arith, w .0 .left, long v cs xs f g))))
       (λ w.
       ⊎-elim
       (λ w.
@@ -205,8 +205,8 @@ empty-but-requires : tie.Need-empty-but-requires Inv-loop μ-loop Inv-factors μ
 empty-but-requires c κs = search needs
 
 returns : tie.Need-returns Inv-loop μ-loop Inv-factors μ-factors
-returns c v cs xs e f b h k =
-    let g : HadAt (factorsOf (c .before .before)) v cs xs = record { list = e; exps = f; based = b; short = h; rows = k } in
+returns c v lent cs xs e f b h k =
+    let g : HadAt (factorsOf (c .before .before)) v cs xs = record { lent = lent; list = e; exps = f; based = b; short = h; rows = k } in
     c .empty-but .ensures ∙ base-off g (turn v cs xs (c .before .before) g) (c .before .if1 .taken)
 
 same-exponents-requires : tie.Need-same-exponents-requires Inv-loop μ-loop Inv-factors μ-factors
@@ -264,11 +264,11 @@ empty-but-requires-2 : tie.Need-empty-but-requires-2 Inv-loop μ-loop Inv-factor
 empty-but-requires-2 c κs = search needs
 
 returns-2 : tie.Need-returns-2 Inv-loop μ-loop Inv-factors μ-factors
-returns-2 c v cs xs e f b h k =
+returns-2 c v lent cs xs e f b h k =
     let p = c .before .before .before .before in
     let l : AtLoop = p .before .before .before in
     let o = differsOf (dividedOf l) in
-    let g : HadAt (factorsOf (baseOf o)) v cs xs = record { list = e; exps = f; based = b; short = h; rows = k } in
+    let g : HadAt (factorsOf (baseOf o)) v cs xs = record { lent = lent; list = e; exps = f; based = b; short = h; rows = k } in
     let r = rule l in
     let in-loop = p .before .before .loop-test .taken in
     c .empty-but2 .ensures
@@ -294,10 +294,10 @@ empty-but-requires-3 : tie.Need-empty-but-requires-3 Inv-loop μ-loop Inv-factor
 empty-but-requires-3 c κs = search needs
 
 returns-3 : tie.Need-returns-3 Inv-loop μ-loop Inv-factors μ-factors
-returns-3 c v cs xs e f b h k =
+returns-3 c v lent cs xs e f b h k =
     let d : Divided = c .before .before .before .before in
     let o = differsOf d in
-    let g : HadAt (factorsOf (baseOf o)) v cs xs = record { list = e; exps = f; based = b; short = h; rows = k } in
+    let g : HadAt (factorsOf (baseOf o)) v cs xs = record { lent = lent; list = e; exps = f; based = b; short = h; rows = k } in
     c .empty-but3 .ensures ∙ multiple-off g (turn v cs xs (baseOf o) g) (o .before .before .before .if1 .left) _ (division d .ends _ (c .before .before .d2 .given .1))
 
 add-i : tie.Need-add-i Inv-loop μ-loop Inv-factors μ-factors
@@ -341,9 +341,9 @@ alone-requires : tie.Need-alone-requires Inv-loop μ-loop Inv-factors μ-factors
 alone-requires c κs = search needs
 
 returns-4 : tie.Need-returns-4 Inv-loop μ-loop Inv-factors μ-factors
-returns-4 c v cs xs e f b h k =
+returns-4 c v lent cs xs e f b h k =
     let l : Left = c .before .before .before .before .before in
-    let g : HadAt (l .before) v cs xs = record { list = e; exps = f; based = b; short = h; rows = k } in
+    let g : HadAt (l .before) v cs xs = record { lent = lent; list = e; exps = f; based = b; short = h; rows = k } in
     let i = c .before .before .before .before .if6 .taken in
     answer-one v (c .alone .result) (c .before .at-exponent2 .result) (single cs (l .factors-test .hit) (l .factors-test .power)) (c .alone .ensures)
     (item-is g (l .factors-test .hit) nilItem _ (l .factors-test .power) (omega (arith, i, long v cs xs (l .before) g)) (c .before .at-exponent2 .ensures))
@@ -353,9 +353,9 @@ empty-but-requires-4 : tie.Need-empty-but-requires-4 Inv-loop μ-loop Inv-factor
 empty-but-requires-4 c κs = search needs
 
 returns-5 : tie.Need-returns-5 Inv-loop μ-loop Inv-factors μ-factors
-returns-5 c v cs xs e f b h k =
+returns-5 c v lent cs xs e f b h k =
     let l : Left = c .before .before in
-    let g : HadAt (l .before) v cs xs = record { list = e; exps = f; based = b; short = h; rows = k } in
+    let g : HadAt (l .before) v cs xs = record { lent = lent; list = e; exps = f; based = b; short = h; rows = k } in
     c .empty-but4 .ensures ∙ answer-none v (⊎-elim (λ w. w .1) (λ w. absurd (omega (arith, w .0, c .before .if6 .left))) (after v cs xs l g))
 
 pub first-multiple-spec : {M : Type 1} → statement M

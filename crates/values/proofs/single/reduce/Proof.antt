@@ -1,6 +1,7 @@
 -- `reduce` meets its contract.
 use borrow.Author.Needs.{needs}
 use mathlib.Core.Path.{ap, _∙_}
+use Rattle.tables.proofs.Telling.{blank-new}
 use Rattle.lists.specs.Opening.{baseRows, opening, openedOf}
 use Rattle.values.proofs.single.reduce.Statement.{statement}
 use Rattle.values.proofs.single.reduce.Tie as tie
@@ -8,16 +9,30 @@ use Rattle.values.proofs.single.reduce.Tie as tie
 empty-requires : tie.Need-empty-requires
 empty-requires c κs = search needs
 
+slice-aggregate-open-lists : tie.Need-slice-aggregate-open-lists
+slice-aggregate-open-lists c = search needs
+
+slice-aggregate-open-lists-2 : tie.Need-slice-aggregate-open-lists-2
+slice-aggregate-open-lists-2 c = search needs
+
 open-lists-requires : tie.Need-open-lists-requires
-open-lists-requires c κs = search needs
+open-lists-requires c κs = search (needs, blank-new)
+
+slice-aggregate-reduce-over : tie.Need-slice-aggregate-reduce-over
+slice-aggregate-reduce-over c = search needs
+
+slice-aggregate-reduce-over-2 : tie.Need-slice-aggregate-reduce-over-2
+slice-aggregate-reduce-over-2 c = search needs
 
 reduce-over-requires : tie.Need-reduce-over-requires
 reduce-over-requires c κs = search needs
 
 returns : tie.Need-returns
 returns c =
-    let s = c .before .before .before .before .args in
-    c .reduce-over .ensures (s .rows) (c .before .open-lists .ensures ∙ ap (λ b. openedOf (baseRows (s .rows)) (opening (s .rows) (s .q .unit) b)) (c .before .before .empty .ensures))
+    let o = c .before .before .before .before .before in
+    let none = o .before .before .before in
+    let s = none .before .before .args in
+    c .reduce-over .ensures (s .rows) (o .open-lists .ensures .0 ∙ ap (λ b. openedOf (baseRows (s .rows)) (opening (s .rows) (s .q .unit) b)) (none .empty .ensures)) (o .open-lists .ensures .1)
 
 pub reduce-spec : {M : Type 1} → statement M
-reduce-spec = tie.close (tie.spec empty-requires open-lists-requires reduce-over-requires returns)
+reduce-spec = tie.close (tie.spec empty-requires slice-aggregate-open-lists slice-aggregate-open-lists-2 open-lists-requires slice-aggregate-reduce-over slice-aggregate-reduce-over-2 reduce-over-requires returns)
