@@ -1,5 +1,5 @@
 // Two lists checked against an admitted table, and each factor handed out with what is known of its row (01, "The refusals", "Canonical form").
-// Public: `resolve`. Nothing above it sees the table.
+// Public: `resolve`. Above it nothing sees the table but for its rows' base exponents, in two lent arrays.
 ghost use mathlib.Core.Path.{_≡_};
 ghost use mathlib.Core.Bool.{false};
 ghost use mathlib.Core.List.{List};
@@ -154,7 +154,7 @@ fn put_key(keys: &mut [i64], at: usize, k: [i64; 16])
     }
 }
 
-// Two lists of a table of `len` rows. An admitted table has at most 128, and each has a key: these two tests only spare callers a proof of it.
+// Two lists of a table of `len` rows; `none` is the empty one, which is filled, or handed back with a refusal. An admitted table has at most 128, and each has a key: these two tests only spare callers a proof of it.
 pub fn resolve(
     len: usize,
     nums: &[i32],

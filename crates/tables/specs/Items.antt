@@ -1,4 +1,4 @@
--- Lists resolved against a table: each factor with what is known of its row. Nothing above sees the table.
+-- Lists resolved against a table: each factor with what is known of its row. Above, nothing sees the table but for the two arrays with base exponents.
 use mathlib.Core.Path.{_≡_}
 use mathlib.Core.Bool.{Bool, true, false}
 use mathlib.Core.List.{List, [], _∷_, _++_, map}
