@@ -111,7 +111,7 @@ finish_one() {
 # speed [compare] [growth] [stack] [--round MILLISECONDS]: the Rust as a release build has it, without checks for overflow
 speed() {
     oracle_crates off
-    program speed wire scope published compact_str
+    program speed wire scope published
     run_x86 "$build/speed" "$@"
 }
 

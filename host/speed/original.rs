@@ -4,14 +4,12 @@
 use std::hint::black_box;
 use std::time::Duration;
 
-use compact_str::CompactString;
+use published::answers::registry;
 use published::arithmetic::Power;
 use published::prefix::Prefix;
-use published::prefix_parser::AcceptsPrefix;
 use published::quantity::Quantity;
-use published::unit::{CanonicalName, Unit, is_multiple_of};
-use published::unit_registry::{UnitMetadata, UnitRegistry};
-use published::units::{Units, exponent, name};
+use published::unit::{Unit, is_multiple_of};
+use published::units::{Units, exponent};
 use wire::bytes;
 use wire::stream::Request;
 
@@ -101,36 +99,4 @@ fn on_two(units: &mut Units, request: &Request, round: Duration) -> f64 {
         17 => lent(round, || black_box(&a) == black_box(&b)),
         _ => lent(round, || black_box(&a).partial_cmp(black_box(&b))),
     }
-}
-
-fn metadata(name: &str) -> UnitMetadata {
-    UnitMetadata {
-        aliases: Vec::new(),
-        name: None,
-        canonical_name: CanonicalName::new(name, AcceptsPrefix),
-        url: None,
-        description: None,
-        binary_prefixes: true,
-        metric_prefixes: true,
-        is_abbreviation: false,
-        code_source_id: 0,
-    }
-}
-
-/// The registry of base rows and candidates, and the units by their names, as the oracle makes them.
-fn registry(units: &mut Units, candidates: &[u8]) -> (UnitRegistry, Vec<(CompactString, Unit)>) {
-    let (mut registry, mut known) = (UnitRegistry::new(), Vec::new());
-    for row in units.rows.iter().filter(|row| row.kind == 0) {
-        let name = name(row.rank);
-        registry.add_base_unit(&name, metadata(&name)).expect("ranks differ");
-        known.push((name, Unit::new_base(name, CanonicalName::new(&name, AcceptsPrefix))));
-    }
-    for candidate in bytes::candidates(candidates).expect("candidates") {
-        let name = format!("c{:05}", candidate.rank);
-        let unit = units.unit(&candidate.unit);
-        let base = unit.to_base_unit_representation().0;
-        registry.add_derived_unit(&name, &base, metadata(&name)).expect("ranks rise");
-        known.push((name.as_str().into(), unit));
-    }
-    (registry, known)
 }

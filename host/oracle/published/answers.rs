@@ -183,21 +183,25 @@ fn metadata(name: &str) -> UnitMetadata {
     }
 }
 
-/// The Rust's registry: every base row as a base unit, every candidate as a derived one.
-fn simplified_with(units: &mut Units, request: &Request, q: &Quantity) -> Quantity {
-    let mut registry = UnitRegistry::new();
-    let mut known: Vec<(CompactString, Unit)> = Vec::new();
+/// The Rust's registry, every base row as a base unit and every candidate as a derived one, and these units by their names.
+pub fn registry(units: &mut Units, candidates: &[u8]) -> (UnitRegistry, Vec<(CompactString, Unit)>) {
+    let (mut registry, mut known) = (UnitRegistry::new(), Vec::new());
     for row in units.rows.iter().filter(|row| row.kind == 0) {
         let name = name(row.rank);
         let canonical_name = CanonicalName::new(&name, AcceptsPrefix);
         registry.add_base_unit(&name, metadata(&name)).expect("ranks differ");
         known.push((name, Unit::new_base(name, canonical_name)));
     }
-    for Candidate { rank, unit } in bytes::candidates(&request.arguments[2]).expect("candidates") {
+    for Candidate { rank, unit } in bytes::candidates(candidates).expect("candidates") {
         let name = candidate_name(rank);
         let unit = units.unit(&unit);
         registry.add_derived_unit(&name, &unit.to_base_unit_representation().0, metadata(&name)).expect("ranks rise");
         known.push((name.as_str().into(), unit));
     }
+    (registry, known)
+}
+
+fn simplified_with(units: &mut Units, request: &Request, q: &Quantity) -> Quantity {
+    let (registry, known) = registry(units, &request.arguments[2]);
     q.full_simplify_with_registry(&registry, |name| known.iter().find(|(n, _)| n == name).map(|(_, unit)| unit.clone()))
 }
