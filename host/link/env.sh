@@ -12,13 +12,13 @@ if [ "$(uname -m)" = aarch64 ]; then
         for argument in "${link_how[@]}" "${link_start[@]}" "$link_work/names/no_maps.o" "${link_end[@]}"; do
             arguments+=(-C "link-arg=$argument")
         done
-        LD_LIBRARY_PATH=$link_work/root/usr/lib/aarch64-linux-gnu \
-            "$link_work/root/usr/bin/rustc" --sysroot "$link_work/root/usr" --target x86_64-unknown-linux-gnu \
+        LD_LIBRARY_PATH=$link_work/debian/usr/lib/aarch64-linux-gnu \
+            "$link_work/debian/usr/bin/rustc" --sysroot "$link_work/debian/usr" --target x86_64-unknown-linux-gnu \
             -C linker="$link_kit/bin/ld.lld" -C linker-flavor=ld.lld "${arguments[@]}" "$@"
     }
     # The kit's clang has no headers of its own.
-    link_headers=(-nostdinc -isystem "$(echo "$link_work"/root/usr/lib/gcc/x86_64-linux-gnu/*/include)"
-        -isystem "$link_work/root/usr/include" -isystem "$link_work/root/usr/include/x86_64-linux-gnu")
+    link_headers=(-nostdinc -isystem "$(echo "$link_work"/debian/usr/lib/gcc/x86_64-linux-gnu/*/include)"
+        -isystem "$link_work/debian/usr/include" -isystem "$link_work/debian/usr/include/x86_64-linux-gnu")
     cc_x86() {
         local source=$1 out=$2 argument compiler=() linker=()
         shift 2

@@ -10,7 +10,7 @@ folder=$1
 [ "$(uname -m)" = aarch64 ] || { mkdir -p "$folder" && : >"$folder/ready" && exit 0; }
 rm -rf "$folder"
 mkdir -p "$folder/deb" "$folder/names"
-root=$folder/root
+root=$folder/debian
 cd "$folder/deb"
 
 needs() { apt-cache depends "$1" 2>/dev/null | sed -n "s/^ *Depends: \($2\)\$/\1/p" | head -1; }

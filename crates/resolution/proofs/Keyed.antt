@@ -8,21 +8,18 @@ use lib.Dec.{ltb}
 use lib.ListN.{length, length-take}
 use borrow.Author.Tests.{ltb-false}
 use Rattle.exponents.specs.Outcome.{TABLE}
-use Rattle.units.specs.declared.Kind.the-variants.{Base}
 use Rattle.units.specs.declared.Row.{Row}
 use Rattle.units.specs.declared.Rows.{Rows}
 use Rattle.tables.specs.declared.Slot.{Slot}
 use Rattle.tables.specs.Rows.{pick, Facts, slots, Admission, admitted, stopped, admitFrom, rowsOf, admit}
 use Rattle.resolution.specs.Resolve.{Keyed}
 use Rattle.tables.proofs.Filled.{admit-rows, table-length, row-known}
-
-anyRow : Row
-anyRow = record { def = []; len = 0; rank = 0; kind = Base }
+use Rattle.tables.proofs.Terms.{nilRow}
 
 pub admitted-keyed : (ss : List Slot) (rs : List Row) (ks : List Facts) → admitFrom ss [] rs ≡ admitted ks → length rs ≤ 128 → Keyed ks
 admitted-keyed ss rs ks h few = record {
   few = omega (arith, table-length ss rs ks h);
-  keys = λ i p. row-known ss rs ks h anyRow i (omega (arith, table-length ss rs ks h)) .key;
+  keys = λ i p. row-known ss rs ks h nilRow i (omega (arith, table-length ss rs ks h)) .key;
 }
 
 few-rows : (r : Rows) (ks : List Facts) → admit r ≡ admitted ks → length (rowsOf r) ≤ 128

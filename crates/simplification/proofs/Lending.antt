@@ -1,7 +1,7 @@
 -- The arrays of an admitted table tell what any view of it has of its rows' base exponents.
 use mathlib.Core.Path.{_≡_, refl, ap, _∙_}
 use mathlib.Core.Bool.{Bool, true, false}
-use mathlib.Core.List.{List, [], _++_}
+use mathlib.Core.List.{List, _++_}
 use Prim.Native.Nat.{ℕ, _≤_, _<_}
 use native.Mathlib.Omega.{arith}
 use lib.Dec.{ltb}
@@ -11,8 +11,6 @@ use borrow.Author.Tests.{ltb-true, ltb-false}
 use Rattle.exponents.specs.Outcome.{given}
 use Rattle.units.specs.declared.Factor.{Factor}
 use Rattle.units.specs.declared.Factors.{Factors}
-use Rattle.units.specs.declared.Kind.the-variants.{Base}
-use Rattle.units.specs.declared.Row.{Row}
 use Rattle.units.specs.declared.Rows.{Rows}
 use Rattle.tables.specs.Rows.{Facts, nobody, admit, admitted, slots, rowsOf}
 use Rattle.tables.specs.Items.{viewOf}
@@ -20,6 +18,7 @@ use Rattle.tables.proofs.Alike.{table-sound}
 use Rattle.tables.proofs.Filled.{admit-rows, table-length}
 use Rattle.tables.proofs.Slotting.{slots-few}
 use Rattle.tables.proofs.Storing.{long-exps}
+use Rattle.tables.proofs.Terms.{nilRow}
 use Rattle.lists.specs.Opening.{table, Tells}
 use Rattle.lists.specs.declared.opening.Opened.{Opened}
 use Rattle.lists.proofs.Checks.{made-of}
@@ -27,9 +26,6 @@ use Rattle.quantities.proofs.Ready.{Ready, seen}
 use Rattle.targets.specs.Firsts.{Short}
 use Rattle.simplification.specs.Rules.{Lends}
 use Rattle.simplification.proofs.Kept.{admits}
-
-anyRow : Row
-anyRow = record { def = []; len = 0; rank = 0; kind = Base }
 
 module _ (t : Rows) (ks : List Facts) (k : table t ≡ given ks) where
   few-exps : (r : ℕ) → length (getD ks r nobody .exps) ≤ 16
@@ -42,7 +38,7 @@ module _ (t : Rows) (ks : List Facts) (k : table t ≡ given ks) where
       go true e =
           let h : r < length ks = ltb-true r (length ks) e in
           let there : r < length (rowsOf t) = omega (arith, table-length (slots (rowsOf t)) (rowsOf t) ks (admit-rows t ks rows)) in
-          let long = table-sound (slots (rowsOf t)) (rowsOf t) ks (admit-rows t ks rows) anyRow r there .sized in
+          let long = table-sound (slots (rowsOf t)) (rowsOf t) ks (admit-rows t ks rows) nilRow r there .sized in
           omega (arith, slots-few (rowsOf t))
       go false e =
           let h : length ks ≤ r = ltb-false r (length ks) e in

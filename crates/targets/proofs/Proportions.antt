@@ -15,8 +15,6 @@ use Rattle.exponents.proofs.Rationals.{value, nought-low}
 use Rattle.exponents.proofs.Totals.{worth, zero-add, total}
 use Rattle.exponents.proofs.Value.{Value}
 use Rattle.units.specs.declared.Factor.{Factor}
-use Rattle.units.specs.declared.Kind.the-variants.{Base}
-use Rattle.units.specs.declared.Row.{Row}
 use Rattle.units.specs.declared.Rows.{Rows}
 use Rattle.tables.specs.Key.{entries, first}
 use Rattle.tables.specs.Rows.{pick, Facts, nobody, expAt, places, bases, slots, rowsOf, admitted, admit}
@@ -26,6 +24,7 @@ use Rattle.tables.proofs.Each.{all-imp}
 use Rattle.tables.proofs.Filled.{admit-rows, table-length}
 use Rattle.tables.proofs.Places.{All}
 use Rattle.tables.proofs.Proportional.{Some, first-Some}
+use Rattle.tables.proofs.Terms.{nilRow}
 use Rattle.tables.proofs.Total.{both-total, lists-total, nat-total, z-total}
 use Rattle.canonical.specs.Canonical.{allNought}
 use Rattle.canonical.specs.Order.{atom, of}
@@ -122,14 +121,11 @@ module _ (t : Rows) (ks : List Facts) (a : admit t ≡ admitted ks) where
   abbrev pub basesOf : List (ℕ → Exponent)
   basesOf = bases (length (slots (rowsOf t))) ks
 
-  anyRow : Row
-  anyRow = record { def = []; len = 0; rank = 0; kind = Base }
-
   within : (r : ℕ) → r < length ks → r < length (rowsOf t)
   within r h = omega (arith, table-length (slots (rowsOf t)) (rowsOf t) ks (admit-rows t ks a))
 
   low : (r : ℕ) → r < length ks → All Low (getD ks r nobody .exps)
-  low r h = all-imp (getD ks r nobody .exps) (λ x s. s .low) (table-sound (slots (rowsOf t)) (rowsOf t) ks (admit-rows t ks a) anyRow r (within r h) .each)
+  low r h = all-imp (getD ks r nobody .exps) (λ x s. s .low) (table-sound (slots (rowsOf t)) (rowsOf t) ks (admit-rows t ks a) nilRow r (within r h) .each)
 
   some-lead : (r : ℕ) → r < length ks → Some (leadIn ks r)
   some-lead r h = first-Some (getD ks r nobody .exps) (low r h)
@@ -148,7 +144,7 @@ module _ (t : Rows) (ks : List Facts) (a : admit t ≡ admitted ks) where
   rows-like r s p q e b =
       worth-cross (leadIn ks r) (expAt ks b s) (leadIn ks s) (expAt ks b r)
       (some-lead r p .low) (at-low s q b) (some-lead s q .low) (at-low r p b)
-      (alike (slots (rowsOf t)) (rowsOf t) ks (admit-rows t ks a) anyRow s r (within s q) (within r p) (sym e) b)
+      (alike (slots (rowsOf t)) (rowsOf t) ks (admit-rows t ks a) nilRow s r (within s q) (within r p) (sym e) b)
 
   -- THEOREM: a group of rows of one key keeps its base exponents
   module _ (k : List (ℕ × ℤ)) where
