@@ -1,7 +1,8 @@
 // A buffer over a file descriptor: what was read and not used lies from `at` to `end`.
 ghost use mathlib.Core.Path.{_≡_};
-ghost use Prim.Native.Nat.{_+_, _≤_};
+ghost use Prim.Native.Nat.{_-_, _≤_};
 ghost use lib.ListN.{length};
+ghost use Rattle.inflow.specs.Inflow.{moved, Refilled};
 
 pub struct Held {
     pub at: usize,
@@ -17,9 +18,10 @@ pub fn space() -> [u8; 262144]
     [0; 262144]
 }
 
-// Moves s[at..end] to the front of s.
+// Moves s[at..end] to the front of s; the bytes behind its new place stay.
 fn shift(s: &mut [u8], at: usize, end: usize)
     requires { ⌜ (at ≤ end) × (end ≤ length (now s)) ⌝ }
+    ensures { λ _. ⌜ now (s .exit) ≡ moved at (end - at) (now (s .entry)) ⌝ }
 {
     let mut i: usize = 0;
     let mut j = at;
@@ -33,7 +35,7 @@ fn shift(s: &mut [u8], at: usize, end: usize)
 // Moves the `end - at` bytes that are left to the front, and reads more behind them, once.
 pub fn refill(fd: i32, inp: &mut [u8], at: usize, end: usize) -> Held
     requires { ⌜ (at ≤ end) × (end ≤ length (now inp)) ⌝ }
-    ensures { λ r. ⌜ (r .at ≤ r .end) × (r .end ≤ length (now (inp .entry))) ⌝ }
+    ensures { λ r. ⌜ Refilled (now (inp .entry)) at end r (now (inp .exit)) ⌝ }
 {
     shift(inp, at, end);
     let have = end - at;

@@ -127,10 +127,11 @@ pub record Answered (s out₀ : List ℕ) (n e o : ℕ) (out : List ℕ) : Type 
   pub wrote : o ≡ length (answers n s 0)
   pub held : out ≡ answers n s 0 ++ drop o out₀
   pub whole : (k : ℕ) → k < n → next s (ends k s 0) ≡ 0
+  pub roomy : (k : ℕ) → k < n → length (answers k s 0) + 344 ≤ length out₀
 
 pub none-answered : (s out : List ℕ) → Answered s out 0 0 0 out
 unfolding ends answers
-none-answered s out = record { ended = refl; wrote = refl; held = refl; whole = λ k h. absurd (omega arith) }
+none-answered s out = record { ended = refl; wrote = refl; held = refl; whole = λ k h. absurd (omega arith); roomy = λ k h. absurd (omega arith) }
 
 module _ (s out₀ : List ℕ) (n e o : ℕ) (out : List ℕ) (so : Answered s out₀ n e o out) (code : ℕ) (at : code ≡ le 4 s e) (f : Frame) (lies : f ≡ framed code s (e + 4)) where
   to-is : f .to ≡ framed (le 4 s e) s (e + 4) .to
@@ -142,8 +143,8 @@ module _ (s out₀ : List ℕ) (n e o : ℕ) (out : List ℕ) (so : Answered s o
 
   pub one-answered : (r : ℕ) (out₁ : List ℕ) → r ≡ o + length (answerBytes (answered code (take (f .to - (e + 4)) (drop (e + 4) s))))
       → out₁ ≡ take o out ++ (answerBytes (answered code (take (f .to - (e + 4)) (drop (e + 4) s))) ++ drop r out)
-      → next s e ≡ 0 → Answered s out₀ (n + 1) (f .to) r out₁
-  one-answered r out₁ p q z =
+      → next s e ≡ 0 → o + 344 ≤ length out₀ → Answered s out₀ (n + 1) (f .to) r out₁
+  one-answered r out₁ p q z w =
       let b : r ≡ o + length (answerBytes (answered (le 4 s e) (behind s e))) = rw bytes-are at p in
       let a : answers (n + 1) s 0 ≡ answers n s 0 ++ answerBytes (answered (le 4 s e) (behind s e)) = rw (add-one, answers-snoc, ← so .ended) in
       record {
@@ -151,6 +152,7 @@ module _ (s out₀ : List ℕ) (n e o : ℕ) (out : List ℕ) (so : Answered s o
         wrote = rw (a, length-append, ← so .wrote) b;
         held = rw a (written-behind (answers n s 0) _ out₀ out out₁ o r (so .wrote) (so .held) b (rw bytes-are at q));
         whole = λ k h. ⊎-elim (λ (j : k ≡ n). rw (j, ← so .ended) z) (λ (j : k < n). so .whole k j) (eq-or-lt-of-le (omega arith));
+        roomy = λ k h. ⊎-elim (λ (j : k ≡ n). rw (j, ← so .wrote) w) (λ (j : k < n). so .roomy k j) (eq-or-lt-of-le (omega arith));
       }
 
 -- ---- the next request

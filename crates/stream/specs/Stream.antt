@@ -79,10 +79,12 @@ answers (suc n) s i = answerBytes (answered (le 4 s i) (behind s i)) ++ answers 
 unfoldable pub next : List ℕ → ℕ → ℕ
 next s i = pick (ltb (length s - i) 4) (short .kind) (framed (le 4 s i) s (i + 4) .kind)
 
--- what is told of the requests s once some are answered into a room, and what the room holds at the end
+-- what is told of the requests s once some are answered into a room, and what the room holds at the end: one result only (proofs/Feeding)
 pub record Feeds (s room : List ℕ) (r : Fed) (end : List ℕ) : Type 0 where
   -- each that is answered was whole
   pub each : (k : ℕ) → k < r .count → next s (ends k s 0) ≡ whole 0 .kind
+  -- and had room for any answer, behind the answers before it
+  pub roomy : (k : ℕ) → k < r .count → length (answers k s 0) + 344 ≤ length room
   pub used : r .used ≡ ends (r .count) s 0
   pub inside : r .used ≤ length s
   pub wrote : r .wrote ≡ length (answers (r .count) s 0)

@@ -45,6 +45,7 @@ returns c =
     let so = c .before .before .before .before .before .loop .inv .4 in
     record {
       each = so .whole;
+      roomy = so .roomy;
       used = so .ended;
       inside = search needs;
       wrote = so .wrote;
@@ -84,7 +85,8 @@ loop-again c = (
   omega (arith, on (c .before .before .before .before .before) .2),
   omega arith,
   one-answered _ _ _ _ _ _ (c .before .before .before .before .before .before .before .before .before .before .loop .inv .4) _ (c .before .before .before .before .before .before .before .before .read-u32 .ensures) _ (c .before .before .before .before .before .before .before .framed .ensures) _ _ (c .before .before .one .ensures .0) (c .before .before .one .ensures .2)
-      (sym (next-is _ _ _ _ (omega arith) (c .before .before .before .before .before .before .before .before .read-u32 .ensures) (c .before .before .before .before .before .before .before .framed .ensures)) ∙ on (c .before .before .before .before .before) .3),
+      (sym (next-is _ _ _ _ (omega arith) (c .before .before .before .before .before .before .before .before .read-u32 .ensures) (c .before .before .before .before .before .before .before .framed .ensures)) ∙ on (c .before .before .before .before .before) .3)
+      (omega (arith, on (c .before .before .before .before .before) .2)),
 )
 
 same-length-2 : tie.Need-same-length-2 Inv-loop μ-loop
@@ -95,6 +97,7 @@ returns-2 c =
     let so = c .before .loop .inv .4 in
     record {
       each = so .whole;
+      roomy = so .roomy;
       used = so .ended;
       inside = search needs;
       wrote = so .wrote;
