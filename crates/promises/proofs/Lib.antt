@@ -3,6 +3,9 @@ pub mod Conversion
 pub mod Products
 pub mod Factors
 pub mod Filled
+pub mod Bounded
+pub mod Rounded
+pub mod Fitting
 pub mod Sizes
 pub mod Unadmitted
 pub mod Simplification

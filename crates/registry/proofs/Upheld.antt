@@ -13,8 +13,10 @@ use Rattle.exponents.proofs.Holds.{Holds, held, Only, fine, take-out, holds-any
 use Rattle.exponents.proofs.Rationals.{value}
 use Rattle.floats.specs.Power.{one}
 use Rattle.units.specs.declared.Factor.{Factor}
+use Rattle.units.specs.declared.Factors.{Factors}
 use Rattle.units.specs.declared.Candidates.{Candidates}
 use Rattle.units.specs.declared.Rows.{Rows}
+use Rattle.units.specs.Lists.{checked}
 use Rattle.tables.specs.declared.Slot.{Slot}
 use Rattle.tables.specs.Lists.{base}
 use Rattle.tables.specs.Rows.{pick, Facts}
@@ -50,53 +52,60 @@ left (wins a) = a
 left (stays b) = b
 
 module _ (R : Rules) (now : Amount) where
-  -- ---- P holds of what is answered, if it holds of what may be taken
-  module _ (P : List Factor → Type 0) where
-    -- the candidate m is taken only if P holds of it
+  -- ---- P holds of what is answered, if it holds of what is left and of each conversion that may be taken
+  module _ (P : Amount → Type 0) where
+    -- of what is left, converted to the list m
+    abbrev pub Converts : List Factor → Type 0
+    Converts m = Holds (λ x. P (x, m)) (convertBy R (now .1) m (now .0))
+
+    -- the candidate m is taken only if so
     abbrev Takes : List Exponent → Float → List Factor → Type 0
-    Takes xs s m = Holds (λ fits. fits ≡ true → P m) (fitting R (length (now .1)) xs s m)
+    Takes xs s m = Holds (λ fits. fits ≡ true → Converts m) (fitting R (length (now .1)) xs s m)
 
     module _ (xs : List Exponent) (s : Float) where
-      turn-has : (best : Amount) (m : List Factor) → Takes xs s m → P (best .1) → Holds (λ w. P (left w .1)) (turn R xs s now best m)
+      turn-has : (best : Amount) (m : List Factor) → Takes xs s m → P best → Holds (λ w. P (left w)) (turn R xs s now best m)
       unfolding turn
-      turn-has best m h b =
-          holds-bind _ h λ fits f.
-          when fits (λ e. holds-map _ (holds-any (convertBy R (now .1) m (now .0))) λ x _. taken x (f e) (eqb (length m) 1) (ltb (length m) (length (best .1)))) (held b)
+      turn-has best m h b = holds-bind _ h λ fits f. when fits (λ e. holds-map _ (f e) λ x p. taken x p (eqb (length m) 1) (ltb (length m) (length (best .1)))) (held b)
         where
-          taken : (x : Float) → P m → (only fewer : Bool) → P (left (pick only (wins (x, m)) (stays (pick fewer (x, m) best))) .1)
+          taken : (x : Float) → P (x, m) → (only fewer : Bool) → P (left (pick only (wins (x, m)) (stays (pick fewer (x, m) best))))
           taken x p true fewer = p
           taken x p false true = p
           taken x p false false = b
 
-      after-has : (w : Turn) (next : Amount → Outcome Amount) → P (left w .1) → ((b : Amount) → P (b .1) → Holds (λ a. P (a .1)) (next b)) → Holds (λ a. P (a .1)) (after w next)
+      after-has : (w : Turn) (next : Amount → Outcome Amount) → P (left w) → ((b : Amount) → P b → Holds P (next b)) → Holds P (after w next)
       unfolding after
       after-has (wins a) next p f = held p
       after-has (stays b) next p f = f b p
 
-      chosen-has : (best : Amount) (ms : List (List Factor)) → All (Takes xs s) ms → P (best .1) → Holds (λ a. P (a .1)) (chosen R xs s now best ms)
+      chosen-has : (best : Amount) (ms : List (List Factor)) → All (Takes xs s) ms → P best → Holds P (chosen R xs s now best ms)
       unfolding chosen
       chosen-has best [] h b = held b
       chosen-has best (m ∷ ms) h b = holds-bind _ (turn-has best m (h .0) b) λ w p. after-has w _ p λ c q. chosen-has c ms (h .1) q
 
-    registered-has : (ss : List Slot) (ms : List (List Factor)) → P (now .1) →
-        ((xs : List Exponent) → base (R .bases) (now .1) ≡ given xs → P (reduced ss xs) × ((s : Float) → All (Takes xs s) ms)) →
-        Holds (λ a. P (a .1)) (registered R ss ms now)
+    registered-has : (ss : List Slot) (ms : List (List Factor)) → P now →
+        ((xs : List Exponent) → base (R .bases) (now .1) ≡ given xs → Converts (reduced ss xs) × ((s : Float) → All (Takes xs s) ms)) →
+        Holds P (registered R ss ms now)
     unfolding registered settled
     registered-has ss ms p f =
         when (ltb 1 (length (now .1)))
         (λ _.
         holds-bind _ (holds-eq (base (R .bases) (now .1))) λ xs e.
         holds-bind _ (holds-any (scale binary64 (R .size) (now .1))) λ s _.
-        when (isSingle (reduced ss xs) && nearOne s)
-        (λ _. holds-map _ (holds-any (convertBy R (now .1) (reduced ss xs) (now .0))) λ x _. f xs e .0)
-        (chosen-has xs s now ms (f xs e .1 s) p))
+        when (isSingle (reduced ss xs) && nearOne s) (λ _. holds-map _ (f xs e .0) λ x q. q) (chosen-has xs s now ms (f xs e .1 s) p))
         (held p)
+
+    -- whichever candidate is taken
+    pub registered-any : (ss : List Slot) (ms : List (List Factor)) → P now → ((xs : List Exponent) → base (R .bases) (now .1) ≡ given xs → Converts (reduced ss xs)) → All Converts ms → Holds P (registered R ss ms now)
+    registered-any ss ms p f h = registered-has ss ms p λ xs e. (f xs e, λ s. all-imp ms (λ m c. holds-imp (holds-any (fitting R (length (now .1)) xs s m)) λ _ _ _. c) h)
+
+  -- of the list alone
+  on-list : (P : List Factor → Type 0) (m : List Factor) → P m → Converts (λ a. P (a .1)) m
+  on-list P m p = holds-imp (holds-any (convertBy R (now .1) m (now .0))) λ _ _. p
 
   -- ---- lists of at most 16 factors
   pub registered-short : (ss : List Slot) (ms : List (List Factor)) → length ss ≤ 16 → All (λ m. length m ≤ 16) ms → length (now .1) ≤ 16 → Holds (λ a. length (a .1) ≤ 16) (registered R ss ms now)
   registered-short ss ms few h n =
-      registered-has (λ m. length m ≤ 16) ss ms n λ xs _.
-      (omega (arith, reduced-short ss xs), λ s. all-imp ms (λ m k. holds-imp (holds-any (fitting R (length (now .1)) xs s m)) λ _ _ _. k) h)
+      registered-any (λ a. length (a .1) ≤ 16) ss ms n (λ xs _. on-list (λ m. length m ≤ 16) (reduced ss xs) (omega (arith, reduced-short ss xs))) (all-imp ms (on-list (λ m. length m ≤ 16)) h)
 
   -- ---- base exponents: xs are those of what is left
   module _ (xs : List Exponent) (e : base (R .bases) (now .1) ≡ given xs) where
@@ -146,7 +155,8 @@ module _ (R : Rules) (now : Amount) where
   -- where the base rows ss are those of the rules
   module _ (ss : List Slot) (ms : List (List Factor)) (same : (xs : List Exponent) → base (R .bases) (now .1) ≡ given xs → Agree value (R .bases) (now .1) (reduced ss xs)) where
     pub keeps-by : Holds (λ a. Agree value (R .bases) (now .1) (a .1)) (registered R ss ms now)
-    keeps-by = registered-has (λ m. Agree value (R .bases) (now .1) m) ss ms (agree-self value (R .bases) (now .1)) λ xs e. (same xs e, λ s. every ms (fitting-agrees xs e s))
+    keeps-by = registered-has (λ a. Agree value (R .bases) (now .1) (a .1)) ss ms (agree-self value (R .bases) (now .1)) λ xs e.
+        (on-list (Agree value (R .bases) (now .1)) (reduced ss xs) (same xs e), λ s. every ms λ m. holds-imp (fitting-agrees xs e s m) λ fits f k. on-list (Agree value (R .bases) (now .1)) m (f k))
 
     pub only-by : Total (R .order) → (S : Refusal → Type 0) → S RANGE → S FRACTION → Only S (registered R ss ms now)
     unfolding registered settled
@@ -169,6 +179,9 @@ module _ (t : Rows) (ks : List Facts) (k : table t ≡ given ks) (ms : List (Lis
   pub registered-only : (S : Refusal → Type 0) → S RANGE → S FRACTION → Only S (registered (rulesIn t ks) (baseRows t) ms now)
   registered-only = only-by (rulesIn t ks) now (baseRows t) ms (reduced-agrees t ks (admits t ks k) (now .1)) (orderIn-total ks)
 
--- ---- the candidates' lists
+-- ---- the candidates' lists: what holds of a list that passed
+pub candidates-all : (P : List Factor → Type 0) (rows : ℕ) → ((l : Factors) → Holds P (checked rows l)) → (c : Candidates) → Holds (All P) (candidateLists rows c)
+candidates-all P rows f c = holds-imp (candidates-hold rows (λ _ m. P m) (λ x. f (x .unit)) c) λ ms h. along-all (h .1)
+
 pub candidates-short : (rows : ℕ) (c : Candidates) → Holds (All (λ m. length m ≤ 16)) (candidateLists rows c)
-candidates-short rows c = holds-imp (candidates-hold rows (λ _ m. length m ≤ 16) (λ x. holds-imp (checked-passed rows (x .unit)) λ fs h. h .0) c) λ ms h. along-all (h .1)
+candidates-short rows = candidates-all (λ m. length m ≤ 16) rows λ l. holds-imp (checked-passed rows l) λ fs h. h .0

@@ -46,7 +46,7 @@ module _ (Q : Factor → Type 0) (stays : (f : Factor) (e : Exponent) → Q f �
   abbrev Lists : ℕ → Amount → Type 0
   Lists n a = Within Q n (a .1)
 
-  canon-within : (n : ℕ) (l : List Factor) → Within Q n l → Holds (Within Q n) (canon (R .order) l)
+  pub canon-within : (n : ℕ) (l : List Factor) → Within Q n l → Holds (Within Q n) (canon (R .order) l)
   canon-within n l h =
       holds-imp (holds-both (canon-short (R .order) l) (canon-keeps Q (λ x y p q. holds-imp (add-sound (y .exponent) (x .exponent)) (λ e. stays y e q)) (R .order) l (h .1)))
       λ c k. (omega (arith, h .0, k .0), k .1)

@@ -27,7 +27,7 @@ use Rattle.targets.proofs.Searching.{unit-rule}
 use Rattle.targets.proofs.Grouping.{greatest-all}
 
 -- ---- multiples that are worked out keep the rule of an exponent
-abbrev Fine : Maybe → Type 0
+abbrev pub Fine : Maybe → Type 0
 Fine (times q) = faulty q ≡ false
 Fine none = Unit {0}
 
@@ -44,7 +44,7 @@ multiple-fine xs ys =
     (pick-is (Holds Fine) (allNought xs || same y nought) (held {a = none} tt)
     (holds-bind _ (holds-by _ (div? x y) (quotient-sound x y)) (fits-fine xs ys)))
 
-is-fine : (bs : List (ℕ → Exponent)) (l m : List Factor) → Holds Fine (isMultiple bs l m)
+pub is-fine : (bs : List (ℕ → Exponent)) (l m : List Factor) → Holds Fine (isMultiple bs l m)
 unfolding isMultiple
 is-fine bs l m = holds-bind _ (holds-any (base bs l)) λ xs _. holds-bind _ (holds-any (base bs m)) λ ys _. multiple-fine xs ys
 

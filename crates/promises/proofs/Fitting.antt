@@ -1,0 +1,227 @@
+-- Every quantity, list and multiple that a call answers fits its bytes, so that what is written is read back as the answer.
+use mathlib.Core.Path.{_≡_, refl, ap}
+use mathlib.Core.Bool.{Bool, true, false}
+use mathlib.Core.List.{List, _++_, map as along}
+use Prim.Native.Nat.{ℕ, _≤_, _<_, Ordering}
+use native.Mathlib.Omega.{arith}
+use borrow.Author.Tests.{ltb-false}
+use lib.Dec.{eqb}
+use lib.IntN.{ℤ, pos, negsuc, natAbs}
+use lib.Signed.{mag, ltZ}
+use lib.Ieee.{Float, binary64, neg}
+use lib.Ieee.Fits as ieee
+use lib.ListN.{length}
+use Rattle.exponents.specs.Outcome.{Outcome, given, DIVZERO, ZERONEG, map}
+use Rattle.exponents.specs.Fractions.{most}
+use Rattle.exponents.specs.declared.Exponent.{Exponent}
+use Rattle.exponents.proofs.Holds.{Holds, moot, held, holds-any, holds-imp, holds-both, holds-unless, holds-map, holds-bind}
+use Rattle.exponents.proofs.InRange.{InRange, or-left, sound}
+use Rattle.floats.specs.Values.{isZero}
+use Rattle.floats.proofs.Laws as floats
+use Rattle.floats.proofs.Patterns.{bits-fit}
+use Rattle.units.specs.declared.Candidates.{Candidates}
+use Rattle.units.specs.declared.Factor.{Factor}
+use Rattle.units.specs.declared.Factors.{Factors}
+use Rattle.units.specs.declared.Prefix.{Prefix}
+use Rattle.units.specs.declared.Prefix.the-variants.{Metric, Binary}
+use Rattle.units.specs.declared.Quantity.{Quantity}
+use Rattle.units.specs.declared.Rows.{Rows}
+use Rattle.units.specs.Prefixes.{numberFault, prefixFault}
+use Rattle.units.specs.Lists.{pack, inverted}
+use Rattle.tables.specs.Scale as scales
+use Rattle.tables.specs.Scale.{sizeBy}
+use Rattle.tables.specs.Rows.{pick, scaleAt}
+use Rattle.tables.proofs.Each.{all-imp}
+use Rattle.canonical.specs.Order.{Atom, orderIn}
+use Rattle.reduction.specs.Multiple.{Maybe, times, none}
+use Rattle.reduction.specs.Reduction as reductions
+use Rattle.lists.specs.Opening.{baseRows}
+use Rattle.lists.specs.Calls as lists
+use Rattle.conversion.specs.Conversion.{convert}
+use Rattle.values.specs.Quantities.{made, fresh}
+use Rattle.values.specs.Calls as values
+use Rattle.quantities.specs.Calls as quantities
+use Rattle.sums.specs.Sums.{combined, together, nonzeroSum}
+use Rattle.sums.specs.Calls as sums
+use Rattle.powers.specs.Powers.{over1, raisedTo}
+use Rattle.powers.specs.Calls as powers
+use Rattle.targets.proofs.Within.{Fine, is-fine}
+use Rattle.simplification.specs.Rules.{Rules, rulesIn, convertBy}
+use Rattle.simplification.specs.Steps.{Amount, quantityOf, simplify}
+use Rattle.simplification.specs.Calls as simplification
+use Rattle.simplification.proofs.Sounding.{simplify-within}
+use Rattle.registry.specs.Calls as registry
+use Rattle.registry.proofs.Upheld.{candidates-all, registered-any}
+use Rattle.wire.specs.Records.{quantityAt, quantityBytes}
+use Rattle.wire.specs.Arguments.{badQuantity, quantityFrom}
+use Rattle.wire.proofs.Round.{ExponentFits, PrefixFits, FactorFits, ListFits, QuantityFits, quantity-form}
+use Rattle.wire.proofs.Back.{pack-fits}
+use Rattle.replies.proofs.Back.{MultipleFits}
+use Rattle.promises.proofs.Factors.{either, mapped}
+use Rattle.promises.proofs.Bounded.{Bounded, Bounds, still-bounded, joined-bounds, inverted-bounded, raised-bounds, checked-bounds, reduced-bounds, of-one, of-two, product-bounds, quotient-bounds, power-bounds, canonical-bounds, reduction-bounds, smaller-bounds, listed-bounds}
+use Rattle.promises.proofs.Rounded.{ValueFits, abs-value, combined-value, scale-value, convert-value, convert-by, simplify-value}
+
+-- ---- a factor whose numbers are in range
+
+num-small : (z : ℤ) → natAbs z ≤ most → mag z < 2147483648
+num-small (pos n) h = omega arith
+num-small (negsuc n) h = omega arith
+
+exponent-fits : (e : Exponent) → InRange e → ExponentFits e
+exponent-fits e h = record { num = num-small (e .num) (h .numerator); den = omega (arith, h .denominator) }
+
+number-small : (z : ℤ) → numberFault z ≡ false → mag z < 2147483648
+number-small (pos n) h = omega (arith, ltb-false 1100 n h)
+number-small (negsuc n) h = omega (arith, ltb-false 1099 n (or-left (ltZ (negsuc n) (negsuc 1099)) (ltZ (pos 1100) (negsuc n)) h))
+
+prefix-fits : (p : Prefix) → prefixFault p ≡ false → PrefixFits p
+prefix-fits (Metric n) h = record { number = number-small n h }
+prefix-fits (Binary n) h = record { number = number-small n h }
+
+pub factor-fits : (f : Factor) → Bounded f → FactorFits f
+factor-fits f b = record { row = omega (arith, b .row); prefix = prefix-fits (f .prefix) (b .prefix); exponent = exponent-fits (f .exponent) (b .exponent) }
+
+pub list-fits : (fs : List Factor) → Bounds fs → ListFits (pack fs)
+list-fits fs h = pack-fits fs (all-imp fs factor-fits (h .1)) (h .0)
+
+-- ---- quantities of such values and lists
+
+abbrev AmountFits : Amount → Type 0
+AmountFits a = ValueFits (a .0) × Bounds (a .1)
+
+simplify-amount : (R : Rules) (v : Float) (l : List Factor) → ValueFits v → Bounds l → Holds AmountFits (simplify R v l)
+simplify-amount R v l h b = holds-both (simplify-value R v l h) (simplify-within Bounded still-bounded R 16 v l b)
+
+made-fits : (mark : Bool) (v : Float) (fs : List Factor) → ValueFits v → Bounds fs → QuantityFits (made mark v fs)
+made-fits mark v fs h b = record { value = h; unit = list-fits fs b }
+
+all-made : (mark : Bool) (v : Float) {o : Outcome (List Factor)} → ValueFits v → Holds Bounds o → Holds QuantityFits (map (made mark v) o)
+all-made mark v h b = holds-map _ b λ fs. made-fits mark v fs h
+
+amounts-fit : {o : Outcome Amount} → Holds AmountFits o → Holds QuantityFits (map quantityOf o)
+amounts-fit h = holds-map _ h λ a p. made-fits true (a .0) (a .1) (p .0) (p .1)
+
+-- the sum of two nonzero values
+sum-fits : (cmp : Atom → Atom → Ordering) (bs : List (ℕ → Exponent)) (size : Factor → Float) (minus : Bool) (x y : Float) (fs gs : List Factor) → Bounds fs → Bounds gs → Holds QuantityFits (nonzeroSum cmp bs size minus x y fs gs)
+unfolding nonzeroSum together
+sum-fits cmp bs size minus x y fs gs h k =
+    holds-bind _ (holds-any _) λ same _. either (Holds QuantityFits) same (given (fresh (combined minus x y) fs)) _ (held (made-fits true _ fs (combined-value minus x y) h))
+    (holds-bind _ (holds-any _) λ first _. holds-bind _ (holds-any _) λ a _.
+    mapped _ (convert cmp bs scales.binary64 size gs (pick first fs gs) y) λ b. made-fits true _ (pick first fs gs) (combined-value minus a b) (either Bounds first fs gs h k))
+
+-- ---- the calls on quantities
+
+module _ (t : Rows) (q : Quantity) where
+  pub reduce-fits : Holds QuantityFits (values.reduce t q)
+  unfolding values.reduce
+  reduce-fits = holds-map _ (reduction-bounds t (q .unit)) λ p h. made-fits true _ (p .0) (ieee.mul-fits binary64 (q .value) (p .1)) h
+
+  module _ (v : ValueFits (q .value)) where
+    pub negate-fits : Holds QuantityFits (values.negate t q)
+    unfolding values.negate
+    negate-fits = all-made true _ (ieee.neg-fits binary64 (q .value) v) (listed-bounds t (q .unit))
+
+    pub magnitude-fits : Holds QuantityFits (values.magnitude t q)
+    unfolding values.magnitude
+    magnitude-fits = all-made true _ (abs-value (q .value) v) (listed-bounds t (q .unit))
+
+    pub unmarked-fits : Holds QuantityFits (values.noSimplify t q)
+    unfolding values.noSimplify
+    unmarked-fits = all-made false _ v (listed-bounds t (q .unit))
+
+    pub convert-fits : (m : Factors) → Holds QuantityFits (quantities.convertTo t q m)
+    unfolding quantities.convertTo
+    convert-fits m = of-two t (q .unit) m _ λ ks fs gs h k. holds-map _ (convert-value (orderIn ks) (lists.basesIn t ks) (sizeBy (scaleAt ks)) fs gs (q .value) v) λ x f. made-fits true x gs f k
+
+    pub simplify-fits : Holds QuantityFits (simplification.fullSimplify t q)
+    unfolding simplification.fullSimplify
+    simplify-fits = of-one t (q .unit) _ λ ks k fs h.
+        either (Holds QuantityFits) (q .mark) _ (given (made false (q .value) fs)) (amounts-fit (simplify-amount (rulesIn t ks) (q .value) fs v h)) (held (made-fits false (q .value) fs v h))
+
+    pub with-fits : (c : Candidates) → Holds QuantityFits (registry.fullSimplifyWith t q c)
+    unfolding registry.fullSimplifyWith
+    with-fits c = of-one t (q .unit) _ λ ks k fs h. holds-bind _ (candidates-all Bounds (length ks) (checked-bounds t ks k) c) λ ms b.
+        either (Holds QuantityFits) (q .mark) _ (given (made false (q .value) fs))
+        (amounts-fit (holds-bind _ (simplify-amount (rulesIn t ks) (q .value) fs v h) λ a j.
+        let to : (m : List Factor) → Bounds m → Holds (λ x. AmountFits (x, m)) (convertBy (rulesIn t ks) (a .1) m (a .0)) = λ m i. holds-imp (convert-by (rulesIn t ks) (a .1) m (a .0) (j .0)) λ x f. (f, i) in
+        registered-any (rulesIn t ks) a AmountFits (baseRows t) ms j (λ xs e. to _ (reduced-bounds t ks k (a .1) xs e)) (all-imp ms to b)))
+        (held (made-fits false (q .value) fs v h))
+
+  module _ (p : Quantity) where
+    pub multiply-fits : Holds QuantityFits (values.multiply t q p)
+    unfolding values.multiply
+    multiply-fits = all-made true _ (ieee.mul-fits binary64 (q .value) (p .value)) (product-bounds t (q .unit) (p .unit))
+
+    pub divide-fits : Holds QuantityFits (values.checkedDiv t q p)
+    unfolding values.checkedDiv
+    divide-fits = of-two t (q .unit) (p .unit) _ λ ks fs gs h k. holds-unless _ DIVZERO λ _. all-made true _ (ieee.div-fits binary64 (q .value) (p .value)) (joined-bounds fs (along inverted gs) (h .1) (inverted-bounded gs (k .1)))
+
+    pub power-fits : Holds QuantityFits (powers.checkedPower t q p)
+    unfolding powers.checkedPower raisedTo
+    power-fits = of-two t (q .unit) (p .unit) _ λ ks fs gs h k.
+        holds-bind _ (holds-any _) λ x _. holds-unless _ ZERONEG λ _. holds-bind _ (holds-any _) λ n _. all-made true _ (floats.power-fits (q .value) n) (raised-bounds (over1 n) fs h)
+
+    module _ (v : ValueFits (q .value)) (w : ValueFits (p .value)) where
+      summed-fits : (minus : Bool) (lead : List Factor → Quantity) → ((fs : List Factor) → Bounds fs → QuantityFits (lead fs)) → Holds QuantityFits (sums.summed t minus lead q p)
+      unfolding sums.summed
+      summed-fits minus lead f = of-two t (q .unit) (p .unit) _ λ ks fs gs h k.
+          either (Holds QuantityFits) (isZero (q .value)) (given (lead gs)) _ (held (f gs k))
+          (either (Holds QuantityFits) (isZero (p .value)) (given (made (q .mark) (q .value) fs)) _ (held (made-fits (q .mark) (q .value) fs v h))
+          (sum-fits (orderIn ks) (lists.basesIn t ks) (sizeBy (scaleAt ks)) minus (q .value) (p .value) fs gs h k))
+
+      pub add-fits : Holds QuantityFits (sums.add t q p)
+      unfolding sums.add
+      add-fits = summed-fits false _ λ fs. made-fits (p .mark) (p .value) fs w
+
+      pub subtract-fits : Holds QuantityFits (sums.subtract t q p)
+      unfolding sums.subtract
+      subtract-fits = summed-fits true _ λ fs. made-fits true (neg (p .value)) fs (ieee.neg-fits binary64 (p .value) w)
+
+-- ---- the calls on lists
+
+fine-fits : (m : Maybe) → Fine m → MultipleFits m
+fine-fits (times e) h = exponent-fits e (sound e h .0)
+fine-fits none h = tt
+
+module _ (t : Rows) (a : Factors) where
+  pub list-power-fits : (e : Exponent) → Holds (λ fs. ListFits (pack fs)) (lists.listPower t a e)
+  list-power-fits e = holds-imp (power-bounds t a e) list-fits
+
+  pub canonical-fits : Holds (λ fs. ListFits (pack fs)) (lists.canonical t a)
+  canonical-fits = holds-imp (canonical-bounds t a) list-fits
+
+  scale-fits : Holds (λ p. ValueFits (p .1)) (lists.reduction t a)
+  unfolding lists.reduction reductions.reduction
+  scale-fits = holds-bind _ (holds-any _) λ ks _. holds-bind _ (holds-any _) λ fs _. holds-bind _ (holds-any _) λ es _. holds-map _ (scale-value (sizeBy (scaleAt ks)) fs) λ s f. f
+
+  pub reduction-fits : Holds (λ p. ListFits (pack (p .0)) × ValueFits (p .1)) (lists.reduction t a)
+  reduction-fits = holds-both (holds-imp (reduction-bounds t a) λ p. list-fits (p .0)) scale-fits
+
+  module _ (b : Factors) where
+    pub product-fits : Holds (λ fs. ListFits (pack fs)) (lists.product t a b)
+    product-fits = holds-imp (product-bounds t a b) list-fits
+
+    pub quotient-fits : Holds (λ fs. ListFits (pack fs)) (lists.quotient t a b)
+    quotient-fits = holds-imp (quotient-bounds t a b) list-fits
+
+    pub smaller-fits : Holds (λ fs. ListFits (pack fs)) (lists.smallerUnit t a b)
+    smaller-fits = holds-imp (smaller-bounds t a b) list-fits
+
+    pub multiple-fits : Holds MultipleFits (lists.multiple t a b)
+    unfolding lists.multiple
+    multiple-fits = of-two t a b _ λ ks fs gs h k. holds-imp (is-fine (lists.basesIn t ks) fs gs) fine-fits
+
+-- ---- written and read
+
+-- THEOREM: a quantity's bytes, whatever stands behind them, read as the quantity
+pub read-back : (q : Quantity) → QuantityFits q → (s : List ℕ) → quantityAt (quantityBytes q ++ s) 0 ≡ q
+read-back q h s = quantity-form .back q s h
+
+pub answer-back : {o : Outcome Quantity} → Holds QuantityFits o → (s : List ℕ) → map (λ bs. quantityAt (bs ++ s) 0) (map quantityBytes o) ≡ o
+answer-back moot s = refl
+answer-back (held {a = q} h) s = ap given (read-back q h s)
+
+-- a quantity read has a value that fits, so that no call on bytes has to ask for it
+pub read-fits : (s : List ℕ) → ValueFits (quantityFrom s .value)
+unfolding quantityFrom quantityAt
+read-fits s = either (λ q. ValueFits (q .value)) (eqb (length s) 336) (quantityAt s 0) badQuantity (bits-fit _) (bits-fit 0)
