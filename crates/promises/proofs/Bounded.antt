@@ -1,14 +1,15 @@
--- Every factor of a list that a call answers names one of a table's rows, and its prefix and exponent are in range.
+-- Every list that a call answers has at most 16 factors, each of which names one of a table's rows, its prefix and exponent in range.
 use mathlib.Core.Path.{_≡_}
-use mathlib.Core.Bool.{false}
+use mathlib.Core.Bool.{Bool, true, false}
 use mathlib.Core.List.{List, [], _∷_, _++_, map as along}
-use Prim.Native.Nat.{ℕ, _≤_, _<_}
+use Prim.Native.Nat.{ℕ, _+_, _-_, _≤_, _<_}
 use native.Mathlib.Omega.{arith}
-use lib.ListN.{length}
-use Rattle.exponents.specs.Outcome.{Outcome, given, ROOM, SHAPE, bind, each}
+use borrow.Author.Tests.{ltb-false}
+use lib.ListN.{length, length-append}
+use Rattle.exponents.specs.Outcome.{Outcome, given, ROOM, SHAPE, map, bind, each}
 use Rattle.exponents.specs.Fractions.{faulty}
 use Rattle.exponents.specs.declared.Exponent.{Exponent}
-use Rattle.exponents.proofs.Holds.{Holds, held, take-out, holds-eq, holds-imp, holds-both, holds-unless, holds-map, holds-bind}
+use Rattle.exponents.proofs.Holds.{Holds, held, take-out, holds-any, holds-eq, holds-imp, holds-unless, holds-map, holds-bind}
 use Rattle.exponents.proofs.InRange.{InRange, or-left, ranged-holds, sound, neg-in-range}
 use Rattle.units.specs.declared.Factor.{Factor}
 use Rattle.units.specs.declared.Factors.{Factors}
@@ -35,7 +36,17 @@ use Rattle.simplification.specs.Rules.{rulesIn}
 use Rattle.simplification.proofs.Sounding.{Passes, row-known, checked-passed, canon-within}
 use Rattle.simplification.proofs.Kept.{admits}
 use Rattle.registry.proofs.BaseList.{base-list-checked}
-use Rattle.promises.proofs.Factors.{either, mapped, joined-few, each-few}
+
+-- ---- the parts of a call
+
+pub either : {A : Type 0} (P : A → Type 0) (t : Bool) (a b : A) → P a → P b → P (pick t a b)
+either P true a b p q = p
+either P false a b p q = q
+
+pub mapped : {A B : Type 0} {P : B → Type 0} (f : A → B) (o : Outcome A) → ((a : A) → P (f a)) → Holds P (map f o)
+mapped f o h = holds-map f (holds-any o) λ a _. h a
+
+-- ---- factors
 
 pub record Bounded (f : Factor) : Type 0 where
   pub row : f .row < 128
@@ -66,20 +77,19 @@ Bounds = Within Bounded 16
 
 pub joined-bounds : (fs gs : List Factor) → All Bounded fs → All Bounded gs → Holds Bounds (joined fs gs)
 unfolding joined
-joined-bounds fs gs h k = holds-both (joined-few fs gs) (holds-unless _ ROOM λ _. held {a = fs ++ gs} (all-append Bounded fs gs h k))
+joined-bounds fs gs h k = holds-unless _ ROOM λ e. held {a = fs ++ gs} (omega (arith, length-append fs gs, ltb-false 16 (length fs + length gs) e), all-append Bounded fs gs h k)
 
 pub inverted-bounded : (l : List Factor) → All Bounded l → All Bounded (along inverted l)
 unfolding inverted withExponent
 inverted-bounded [] h = tt
 inverted-bounded (f ∷ l) h = (with-bounded f _ (h .0) (neg-in-range (f .exponent) (h .0 .exponent)), inverted-bounded l (h .1))
 
-raised-bounded : (e : Exponent) (l : List Factor) → All Bounded l → Holds (All Bounded) (each (raised e) l)
+pub raised-bounds : (e : Exponent) (n : ℕ) (l : List Factor) → Within Bounded n l → Holds (Within Bounded n) (each (raised e) l)
 unfolding each raised withExponent
-raised-bounded e [] h = held tt
-raised-bounded e (f ∷ l) h = holds-bind _ (holds-map _ (ranged-holds _ _ (with-bounded f _ (h .0))) λ x b. b) λ g b. holds-map _ (raised-bounded e l (h .1)) λ m c. (b, c)
-
-pub raised-bounds : (e : Exponent) (l : List Factor) → Bounds l → Holds Bounds (each (raised e) l)
-raised-bounds e l h = holds-both (each-few (raised e) l (h .0)) (raised-bounded e l (h .1))
+raised-bounds e n [] h = held h
+raised-bounds e n (f ∷ l) h =
+    holds-bind _ (holds-map _ (ranged-holds _ _ (with-bounded f _ (h .1 .0))) λ x b. b) λ g b.
+    holds-map _ (raised-bounds e (n - 1) l (omega (arith, h .0), h .1 .1)) λ m c. (omega (arith, h .0, c .0), (b, c .1))
 
 module _ (t : Rows) where
   -- ---- the lists of a call
@@ -117,7 +127,7 @@ module _ (t : Rows) where
 
   pub power-bounds : (a : Factors) (e : Exponent) → Holds Bounds (lists.listPower t a e)
   unfolding lists.listPower units.listPower
-  power-bounds a e = of-one a _ λ ks k fs h. holds-unless _ SHAPE λ _. raised-bounds e fs h
+  power-bounds a e = of-one a _ λ ks k fs h. holds-unless _ SHAPE λ _. raised-bounds e 16 fs h
 
   pub canonical-bounds : (a : Factors) → Holds Bounds (lists.canonical t a)
   unfolding lists.canonical

@@ -57,8 +57,7 @@ use Rattle.wire.specs.Arguments.{badQuantity, quantityFrom}
 use Rattle.wire.proofs.Round.{ExponentFits, PrefixFits, FactorFits, ListFits, QuantityFits, quantity-form}
 use Rattle.wire.proofs.Back.{pack-fits}
 use Rattle.replies.proofs.Back.{MultipleFits}
-use Rattle.promises.proofs.Factors.{either, mapped}
-use Rattle.promises.proofs.Bounded.{Bounded, Bounds, still-bounded, joined-bounds, inverted-bounded, raised-bounds, checked-bounds, reduced-bounds, of-one, of-two, product-bounds, quotient-bounds, power-bounds, canonical-bounds, reduction-bounds, smaller-bounds, listed-bounds}
+use Rattle.promises.proofs.Bounded.{either, mapped, Bounded, Bounds, still-bounded, joined-bounds, inverted-bounded, raised-bounds, checked-bounds, reduced-bounds, of-one, of-two, product-bounds, quotient-bounds, power-bounds, canonical-bounds, reduction-bounds, smaller-bounds, listed-bounds}
 use Rattle.promises.proofs.Rounded.{ValueFits, abs-value, combined-value, scale-value, convert-value, convert-by, simplify-value}
 
 -- ---- a factor whose numbers are in range
@@ -159,7 +158,7 @@ module _ (t : Rows) (q : Quantity) where
     pub power-fits : Holds QuantityFits (powers.checkedPower t q p)
     unfolding powers.checkedPower raisedTo
     power-fits = of-two t (q .unit) (p .unit) _ λ ks fs gs h k.
-        holds-bind _ (holds-any _) λ x _. holds-unless _ ZERONEG λ _. holds-bind _ (holds-any _) λ n _. all-made true _ (floats.power-fits (q .value) n) (raised-bounds (over1 n) fs h)
+        holds-bind _ (holds-any _) λ x _. holds-unless _ ZERONEG λ _. holds-bind _ (holds-any _) λ n _. all-made true _ (floats.power-fits (q .value) n) (raised-bounds (over1 n) 16 fs h)
 
     module _ (v : ValueFits (q .value)) (w : ValueFits (p .value)) where
       summed-fits : (minus : Bool) (lead : List Factor → Quantity) → ((fs : List Factor) → Bounds fs → QuantityFits (lead fs)) → Holds QuantityFits (sums.summed t minus lead q p)

@@ -1,8 +1,6 @@
 pub mod Bench
 pub mod Conversion
 pub mod Products
-pub mod Factors
-pub mod Filled
 pub mod Bounded
 pub mod Rounded
 pub mod Fitting

@@ -25,7 +25,7 @@ use Rattle.targets.specs.Groups.{groups}
 use Rattle.simplification.specs.Rules.{Rules, convertBy}
 use Rattle.simplification.specs.Steps.{Amount, converted, byGroups, further, simplify}
 use Rattle.simplification.proofs.Sounding.{attempt-holds, toward-holds}
-use Rattle.promises.proofs.Factors.{mapped}
+use Rattle.promises.proofs.Bounded.{mapped}
 
 abbrev pub ValueFits : Float → Type 0
 ValueFits v = T (fits binary64 v)

@@ -21,16 +21,17 @@ use Rattle.wire.specs.Bytes.{bytesOf}
 use Rattle.wire.specs.Records.{quantityBytes, flag}
 use Rattle.wire.specs.Arguments.{prefixFrom, exponentFrom, listFrom, quantityFrom, tableFrom, candidatesFrom}
 use Rattle.wire.proofs.Digits.{length-bytesOf}
-use Rattle.wire.proofs.Stored.{length-exponentBytes, length-listBytes, length-quantityBytes}
+use Rattle.wire.proofs.Stored.{length-exponentBytes}
+use Rattle.wire.proofs.Round.{ListFits, QuantityFits, list-form, quantity-form}
 use Rattle.replies.specs.Replies.{sent, orderNumber, unitBytes, valueBytes, reducedBytes, verdictBytes, orderBytes, multipleBytes}
 use Rattle.replies.proofs.Parts.{value-sized}
 use Rattle.requests.specs.Calls as requests
 use Rattle.stream.specs.Calls.{Call, calls, look, callOf}
 use Rattle.stream.specs.Stream.{lent, answerTo, answered}
-use Rattle.promises.proofs.Factors as factors
-use Rattle.promises.proofs.Factors.{Few, either, mapped}
-use Rattle.promises.proofs.Filled as filled
-use Rattle.promises.proofs.Filled.{Full, pack-full}
+use Rattle.promises.proofs.Bounded.{either, mapped}
+use Rattle.promises.proofs.Rounded.{ValueFits}
+use Rattle.promises.proofs.Fitting as fitting
+use Rattle.promises.proofs.Fitting.{read-fits}
 
 -- at most as long as a quantity
 abbrev pub Short : List ℕ → Type 0
@@ -45,16 +46,16 @@ sized bytes size h e o = mapped bytes o λ a. omega (arith, e a)
 number-short : {A : Type 0} (number : A → ℕ) (o : Outcome A) → Holds Short (map (λ a. bytesOf 4 (number a)) o)
 number-short number = sized (λ a. bytesOf 4 (number a)) 4 (omega arith) λ a. length-bytesOf 4 (number a)
 
-unit-short : {o : Outcome (List Factor)} → Holds Few o → Holds Short (map unitBytes o)
+unit-short : {o : Outcome (List Factor)} → Holds (λ fs. ListFits (pack fs)) o → Holds Short (map unitBytes o)
 unfolding unitBytes
-unit-short h = holds-map unitBytes h λ fs k. omega (arith, length-listBytes (pack fs) (pack-full fs k))
+unit-short h = holds-map unitBytes h λ fs k. omega (arith, list-form .sized (pack fs) k)
 
-quantity-short : {o : Outcome Quantity} → Holds Full o → Holds Short (map quantityBytes o)
-quantity-short h = holds-map quantityBytes h λ q k. omega (arith, length-quantityBytes q k)
+quantity-short : {o : Outcome Quantity} → Holds QuantityFits o → Holds Short (map quantityBytes o)
+quantity-short h = holds-map quantityBytes h λ q k. omega (arith, quantity-form .sized q k)
 
-reduced-short : {o : Outcome (List Factor × Float)} → Holds (λ p. Few (p .0)) o → Holds Short (map reducedBytes o)
+reduced-short : {o : Outcome (List Factor × Float)} → Holds (λ p. ListFits (pack (p .0)) × ValueFits (p .1)) o → Holds Short (map reducedBytes o)
 unfolding reducedBytes valueBytes unitBytes
-reduced-short h = holds-map reducedBytes h λ p k. simp (length-append, length-bytesOf) (omega (arith, length-listBytes (pack (p .0)) (pack-full (p .0) k)))
+reduced-short h = holds-map reducedBytes h λ p k. simp (length-append, length-bytesOf) (omega (arith, list-form .sized (pack (p .0)) (k .0)))
 
 multiple-sized : (m : Maybe) → length (multipleBytes m) ≡ 12
 unfolding multipleBytes
@@ -76,28 +77,28 @@ calls-brief : Each calls
 unfolding calls requests.prefixFactor requests.product requests.quotient requests.listPower requests.canonical requests.sameList requests.reduceList requests.reduce requests.convertTo requests.add requests.subtract requests.multiply requests.checkedDiv requests.checkedPower requests.negate requests.magnitude requests.equal requests.compare requests.smallerUnit requests.isMultipleOf requests.fullSimplify requests.fullSimplifyWith requests.noSimplify verdictBytes orderBytes
 calls-brief =
     (λ p _ _. sized valueBytes 8 (omega arith) value-sized (prefixFactor (prefixFrom p)))
-    and (λ t a b. unit-short (factors.product-few (tableFrom t) (listFrom a) (listFrom b)))
-    and (λ t a b. unit-short (factors.quotient-few (tableFrom t) (listFrom a) (listFrom b)))
-    and (λ t a b. unit-short (factors.power-few (tableFrom t) (listFrom a) (exponentFrom b)))
-    and (λ t a _. unit-short (factors.canonical-few (tableFrom t) (listFrom a)))
+    and (λ t a b. unit-short (fitting.product-fits (tableFrom t) (listFrom a) (listFrom b)))
+    and (λ t a b. unit-short (fitting.quotient-fits (tableFrom t) (listFrom a) (listFrom b)))
+    and (λ t a b. unit-short (fitting.list-power-fits (tableFrom t) (listFrom a) (exponentFrom b)))
+    and (λ t a _. unit-short (fitting.canonical-fits (tableFrom t) (listFrom a)))
     and (λ t a b. number-short flag (lists.sameLists (tableFrom t) (listFrom a) (listFrom b)))
-    and (λ t a _. reduced-short (factors.reduction-few (tableFrom t) (listFrom a)))
-    and (λ t a _. quantity-short (filled.reduce-full (tableFrom t) (quantityFrom a)))
-    and (λ t a b. quantity-short (filled.convert-full (tableFrom t) (quantityFrom a) (listFrom b)))
-    and (λ t a b. quantity-short (filled.add-full (tableFrom t) (quantityFrom a) (quantityFrom b)))
-    and (λ t a b. quantity-short (filled.subtract-full (tableFrom t) (quantityFrom a) (quantityFrom b)))
-    and (λ t a b. quantity-short (filled.multiply-full (tableFrom t) (quantityFrom a) (quantityFrom b)))
-    and (λ t a b. quantity-short (filled.divide-full (tableFrom t) (quantityFrom a) (quantityFrom b)))
-    and (λ t a b. quantity-short (filled.power-full (tableFrom t) (quantityFrom a) (quantityFrom b)))
-    and (λ t a _. quantity-short (filled.negate-full (tableFrom t) (quantityFrom a)))
-    and (λ t a _. quantity-short (filled.magnitude-full (tableFrom t) (quantityFrom a)))
+    and (λ t a _. reduced-short (fitting.reduction-fits (tableFrom t) (listFrom a)))
+    and (λ t a _. quantity-short (fitting.reduce-fits (tableFrom t) (quantityFrom a)))
+    and (λ t a b. quantity-short (fitting.convert-fits (tableFrom t) (quantityFrom a) (read-fits a) (listFrom b)))
+    and (λ t a b. quantity-short (fitting.add-fits (tableFrom t) (quantityFrom a) (quantityFrom b) (read-fits a) (read-fits b)))
+    and (λ t a b. quantity-short (fitting.subtract-fits (tableFrom t) (quantityFrom a) (quantityFrom b) (read-fits a) (read-fits b)))
+    and (λ t a b. quantity-short (fitting.multiply-fits (tableFrom t) (quantityFrom a) (quantityFrom b)))
+    and (λ t a b. quantity-short (fitting.divide-fits (tableFrom t) (quantityFrom a) (quantityFrom b)))
+    and (λ t a b. quantity-short (fitting.power-fits (tableFrom t) (quantityFrom a) (quantityFrom b)))
+    and (λ t a _. quantity-short (fitting.negate-fits (tableFrom t) (quantityFrom a) (read-fits a)))
+    and (λ t a _. quantity-short (fitting.magnitude-fits (tableFrom t) (quantityFrom a) (read-fits a)))
     and (λ t a b. number-short flag (quantities.equal (tableFrom t) (quantityFrom a) (quantityFrom b)))
     and (λ t a b. number-short orderNumber (quantities.compare (tableFrom t) (quantityFrom a) (quantityFrom b)))
-    and (λ t a b. unit-short (factors.smaller-few (tableFrom t) (listFrom a) (listFrom b)))
+    and (λ t a b. unit-short (fitting.smaller-fits (tableFrom t) (listFrom a) (listFrom b)))
     and (λ t a b. sized multipleBytes 12 (omega arith) multiple-sized (lists.multiple (tableFrom t) (listFrom a) (listFrom b)))
-    and (λ t a _. quantity-short (filled.simplify-full (tableFrom t) (quantityFrom a)))
-    and (λ t a b. quantity-short (filled.with-full (tableFrom t) (quantityFrom a) (candidatesFrom b)))
-    and (λ t a _. quantity-short (filled.unmarked-full (tableFrom t) (quantityFrom a)))
+    and (λ t a _. quantity-short (fitting.simplify-fits (tableFrom t) (quantityFrom a) (read-fits a)))
+    and (λ t a b. quantity-short (fitting.with-fits (tableFrom t) (quantityFrom a) (read-fits a) (candidatesFrom b)))
+    and (λ t a _. quantity-short (fitting.unmarked-fits (tableFrom t) (quantityFrom a) (read-fits a)))
     and done
 
 look-brief : {l : List Call} (n : ℕ) → Each l → Brief (look l n)
