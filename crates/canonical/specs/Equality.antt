@@ -1,7 +1,7 @@
 -- Equality of lists (01, "Canonical form"): two are equal if their canonical forms are the same.
 use mathlib.Core.Bool.{Bool, true, false}
 use mathlib.Core.List.{List}
-use Prim.Native.Nat.{Ordering}
+use Prim.Native.Nat.{ℕ, Ordering}
 use Rattle.exponents.specs.Outcome.{Outcome, given, refused, number, map, bind}
 use Rattle.units.specs.declared.Factor.{Factor}
 use Rattle.canonical.specs.Order.{Atom}
@@ -18,3 +18,9 @@ abbrev pub verdictOf : Outcome Bool → Verdict
 verdictOf (given true) = Yes
 verdictOf (given false) = No
 verdictOf (refused r) = Refused (number r)
+
+-- 01's number and answer in each case: no beside a refusal
+abbrev pub verdictTold : Verdict → ℕ × Bool
+verdictTold Yes = (0, true)
+verdictTold No = (0, false)
+verdictTold (Refused n) = (n, false)

@@ -1,4 +1,4 @@
--- Conversion in a table, with exponents as the rational numbers: it is right in every case, and conversions that only look right are not.
+-- Conversion in a table, with exponents as the rational numbers: it is right in every case, what is right in every case is conversion, and in an admitted table two that only look right are not.
 use mathlib.Core.Path.{_≡_, refl, sym, _∙_, ap}
 use mathlib.Core.Bool.{Bool, true, false}
 use mathlib.Core.List.{List, [], _∷_}
@@ -7,17 +7,21 @@ use native.Mathlib.Omega.{arith}
 use lib.IntN.{ℤ, pos}
 use lib.Ieee.{Float, toBits, ofBits, mul, div, eq}
 use lib.Ieee as ieee
+use lib.ListN.{length}
 use Rattle.exponents.specs.Outcome.{UNITS, Outcome, given, refused, bind, each}
+use Rattle.exponents.specs.Outcome as outcome
 use Rattle.exponents.specs.Fractions.{worked}
 use Rattle.exponents.proofs.Rationals as rational
 use Rattle.floats.specs.Power.{one, bitsOf, raise, power}
 use Rattle.units.specs.declared.Prefix.the-variants.{Metric}
 use Rattle.units.specs.declared.Factor.{Factor}
-use Rattle.units.specs.Lists.{withExponent, inverted}
-use Rattle.tables.specs.Key.{entry, entries}
+use Rattle.units.specs.declared.Kind.the-variants.{Base, Derived}
+use Rattle.units.specs.declared.Rows.{Rows}
+use Rattle.units.specs.Lists.{factorFault, some, withExponent, inverted}
+use Rattle.tables.specs.Key.{multiple, whole, wholes, divisor, below, turn, shrink, reduce, key, entry, entries}
 use Rattle.tables.specs.Lists.{baseAt, base}
 use Rattle.tables.specs.Scale.{Numbers, binary64, raise as raisedBy, raisedTo, scaleFrom, sizeBy}
-use Rattle.tables.specs.Rows.{Facts, expAt, scaleAt, places, bases}
+use Rattle.tables.specs.Rows.{Facts, expAt, scaleAt, places, bases, placed, slotted, slotsFrom, slots, isBase, count, kindFault, tableFault, rowExps, rowScale, workedOut, rowFacts, admitted, admitFrom, rowsOf, admit}
 use Rattle.tables.specs.Items.{keyOrder, rowOrder}
 use Rattle.canonical.specs.Order.{orderIn}
 use Rattle.canonical.specs.Canonical.{place, insert, gather, unless, nonzero, canon, isEq, sameList, sameAll}
@@ -42,13 +46,28 @@ module _ (ks : List Facts) (n : ℕ) {R : Type 0} (N : Numbers R) (size : Factor
   alone = f.only-one (orderIn ks) (bases n ks) rational.value (orderIn-total ks) N size
 
 -- ---- in a table of metre, second and minute = 60 second
-abbrev sixty : Float
+abbrev pub sixty : Float
 sixty = ofBits ieee.binary64 0x404e_0000_0000_0000
 
-abbrev row : ℤ → ℤ → Float → ℕ → Bool → Facts
+abbrev pub unitOf : ℕ → List Factor
+unitOf r = record { row = r; prefix = Metric (pos 0); exponent = record { num = pos 1; den = 1 } } ∷ []
+
+abbrev pub rows : Rows
+rows = record {
+  at =
+      record { def = []; len = 0; rank = 0; kind = Base }
+      ∷ record { def = []; len = 0; rank = 1; kind = Base }
+      ∷ record { def = unitOf 1; len = 1; rank = 2; kind = Derived sixty }
+      ∷ [];
+  len = 3;
+}
+
+-- what is known of its rows
+
+abbrev pub row : ℤ → ℤ → Float → ℕ → Bool → Facts
 row m s scale rank base = record { exps = record { num = m; den = 1 } ∷ record { num = s; den = 1 } ∷ []; key = m ∷ s ∷ []; scale = scale; rank = rank; base = base }
 
-abbrev table : List Facts
+abbrev pub table : List Facts
 table = row (pos 1) (pos 0) one 0 true ∷ row (pos 0) (pos 1) one 1 true ∷ row (pos 0) (pos 1) sixty 2 false ∷ []
 
 -- `unfolding computed` opens what a conversion computes with
@@ -56,8 +75,10 @@ unfoldable computed : Unit {0}
 unfolding worked bind each bitsOf raise power mul div eq toBits ofBits inverted withExponent entry entries baseAt base raisedBy raisedTo scaleFrom expAt scaleAt places keyOrder rowOrder place insert gather unless nonzero canon isEq sameList sameAll meet ifSame withShared sharedWith common judged choose rescaled against unlike convert
 computed = tt
 
-abbrev unitOf : ℕ → List Factor
-unitOf r = record { row = r; prefix = Metric (pos 0); exponent = record { num = pos 1; den = 1 } } ∷ []
+-- the table is admitted, and known as that
+pub admits : admit rows ≡ admitted table
+unfolding computed outcome.unless some factorFault multiple whole wholes divisor below turn shrink reduce key placed slotted slotsFrom isBase count kindFault tableFault rowExps rowScale workedOut rowFacts admitFrom admit
+admits = refl
 
 abbrev conversion : List Factor → List Factor → Float → Outcome Float
 conversion l m v = convert (orderIn table) (bases 2 table) binary64 (sizeBy (scaleAt table)) l m v
@@ -70,10 +91,12 @@ metre-second : conversion (unitOf 0) (unitOf 1) one ≡ refused UNITS
 unfolding computed
 metre-second = refl
 
-abbrev Good : (List Factor → List Factor → Float → Outcome Float) → Type 0
-Good f = Right table 2 binary64 (sizeBy (scaleAt table)) f
+-- right in this table
+abbrev pub Good : (List Factor → List Factor → Float → Outcome Float) → Type 0
+Good f = Right table (length (slots (rowsOf rows))) binary64 (sizeBy (scaleAt table)) f
 
 good-is : (f : List Factor → List Factor → Float → Outcome Float) → Good f → (l m : List Factor) (v : Float) → f l m v ≡ conversion l m v
+unfolding computed placed slotted slotsFrom
 good-is = alone table 2 binary64 (sizeBy (scaleAt table))
 
 -- one that refuses everything, or has any one answer for all, is not right

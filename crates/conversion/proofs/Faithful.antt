@@ -1,4 +1,4 @@
--- The theorem on conversion: it is right in every case, one of the cases always holds, and so no other conversion is right. Then what each refusal tells.
+-- The theorem on conversion: it is right in every case, one of the cases always holds, and so what is right in every case answers as conversion does. Then what each refusal tells.
 use mathlib.Core.Path.{_≡_, refl, sym, _∙_, ap, ap₂, subst}
 use mathlib.Core.Bool.{Bool, true, false, _||_, or-true, true≢false}
 use mathlib.Core.Logic.{_↔_}
@@ -95,7 +95,7 @@ module _ (cmp : Atom → Atom → Ordering) (bs : List (ℕ → Exponent)) (W : 
         (λ cl el. either (canon cmp m) (λ cm em. whether (N .isZero v) (zero el em) (compared cl cm el em)) (λ r e. stopped (at-target el e)))
         (λ r e. stopped (at-own e))
 
-  -- so no other conversion is right: none that refuses everything, keeps every value, or has one answer for all
+  -- so what is right in every case answers as conversion does
   pub only-one : (f : List Factor → List Factor → R → Outcome R) → Faithful cmp bs W N size f → (l m : List Factor) (v : R) → f l m v ≡ conv l m v
   only-one f h l m v = h l m v (case l m v) ∙ sym (faithful l m v (case l m v))
 

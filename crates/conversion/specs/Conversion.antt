@@ -2,7 +2,8 @@
 use mathlib.Core.Bool.{Bool, true, false, _||_}
 use mathlib.Core.List.{List}
 use Prim.Native.Nat.{ℕ, Ordering}
-use lib.Ieee.{Float}
+use lib.Ieee.{Float, ofBits}
+use lib.Ieee as ieee
 use Rattle.exponents.specs.Outcome.{Outcome, given, refused, UNITS, number, map, bind}
 use Rattle.exponents.specs.declared.Exponent.{Exponent}
 use Rattle.units.specs.declared.Factor.{Factor}
@@ -60,3 +61,8 @@ convertedOf (refused r) = Refused (number r)
 abbrev pub refusedBy : Converted → ℕ
 refusedBy (Value v) = 0
 refusedBy (Refused n) = n
+
+-- 01's number and value in each case: value bits zero beside a refusal
+abbrev pub convertedTold : Converted → ℕ × Float
+convertedTold (Value v) = (0, v)
+convertedTold (Refused n) = (n, ofBits ieee.binary64 0)

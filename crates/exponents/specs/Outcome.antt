@@ -59,3 +59,8 @@ each f (a ∷ l) = bind (f a) (λ b. map (λ m. b ∷ m) (each f l))
 abbrev pub refusalOf : {A : Type 0} → Outcome A → ℕ
 refusalOf (given a) = 0
 refusalOf (refused r) = number r
+
+-- 01, "The refusals": the number that a call tells, 0 where it answers, and the answer; beside a refusal `none`, which is zero, no or none
+abbrev pub toldOf : {A : Type 0} → A → Outcome A → ℕ × A
+toldOf none (given a) = (0, a)
+toldOf none (refused r) = (number r, none)

@@ -43,3 +43,10 @@ module _ {X : Type 0} where
   over-full (x ∷ xs) [] (suc i) l = refl
   over-full (x ∷ xs) (y ∷ ys) zero l = absurd (not-suc-le-zero l)
   over-full (x ∷ xs) (y ∷ ys) (suc i) l = ap {B = List X} (λ zs. x ∷ zs) (over-full xs ys i (le-of-suc-le-suc l))
+
+  -- taken back: the elements, if there are places for them
+  pub over-back : (xs ys : List X) → length xs ≤ length ys → take (length xs) (over xs ys) ≡ xs
+  unfolding over
+  over-back [] ys l = refl
+  over-back (x ∷ xs) [] l = absurd (not-suc-le-zero l)
+  over-back (x ∷ xs) (y ∷ ys) l = ap {B = List X} (λ zs. x ∷ zs) (over-back xs ys (le-of-suc-le-suc l))

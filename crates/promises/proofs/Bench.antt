@@ -1,4 +1,4 @@
--- The starred cases of 01's bench list, from the definitions of the public calls: one table of cases and one statement.
+-- The starred cases of 01's bench list, from the definitions of the public calls over eight lent rows: one table of cases and one statement.
 use mathlib.Core.Path.{_≡_, refl}
 use mathlib.Core.Bool.{Bool, true, false}
 use mathlib.Core.List.{List, [], _∷_, map}
@@ -13,6 +13,7 @@ use Rattle.units.specs.declared.Factor.{Factor}
 use Rattle.units.specs.declared.Factors.{Factors}
 use Rattle.units.specs.declared.Quantity.{Quantity}
 use Rattle.units.specs.Lists.{pack, factorFault, some, checked, both}
+use Rattle.lent.specs.Lent.{over, lentRows}
 use Rattle.tables.specs.Lists.{baseAt, base}
 use Rattle.tables.specs.Key.{multiple, whole, wholes, divisor, below, turn, shrink, reduce, key, entry, entries}
 use Rattle.tables.specs.Scale.{raise as raisedBy, raisedTo, scaleFrom}
@@ -32,7 +33,7 @@ use Rattle.quantities.specs.Comparisons.{ordered}
 use Rattle.quantities.specs.Calls as call
 use Rattle.sums.specs.Calls as sums
 use Rattle.powers.specs.Calls as power-of
-use Rattle.promises.specs.Table.{factor, plain, gram, metre, second, bit, minute, hour, byte, newton, table}
+use Rattle.promises.specs.Table.{factor, plain, gram, metre, second, bit, minute, hour, byte, newton, rows, table}
 
 -- ---- what a call says
 
@@ -127,5 +128,5 @@ cases =
     ∷ []
 
 bench : map (λ (c : Case). c .0) cases ≡ map (λ (c : Case). c .1) cases
-unfolding cases says table unless bind each worked bitsOf raise power mul div neg eq lt isNan toBits ofBits pack factorFault some checked both baseAt base multiple whole wholes divisor below turn shrink reduce key entry entries raisedBy raisedTo scaleFrom expAt scaleAt places placed slotted slotsFrom isBase count kindFault tableFault rowExps rowScale workedOut rowFacts admitFrom admit keyOrder rowOrder place insert gather form.unless nonzero canon isEq sameList sameAll equal baseFactors reduced reductions.reduction lists.reduction lists.sameLists ifSame withShared sharedWith common judged choose rescaled against unlike convert powers.raisedTo ordered call.convertTo call.compare sums.summed sums.add sums.subtract power-of.checkedPower
+unfolding cases says rows table over lentRows unless bind each worked bitsOf raise power mul div neg eq lt isNan toBits ofBits pack factorFault some checked both baseAt base multiple whole wholes divisor below turn shrink reduce key entry entries raisedBy raisedTo scaleFrom expAt scaleAt places placed slotted slotsFrom isBase count kindFault tableFault rowExps rowScale workedOut rowFacts admitFrom admit keyOrder rowOrder place insert gather form.unless nonzero canon isEq sameList sameAll equal baseFactors reduced reductions.reduction lists.reduction lists.sameLists ifSame withShared sharedWith common judged choose rescaled against unlike convert powers.raisedTo ordered call.convertTo call.compare sums.summed sums.add sums.subtract power-of.checkedPower
 bench = refl

@@ -7,7 +7,7 @@ use Prim.Native.Nat.{ℕ}
 use native.Mathlib.Omega.{arith}
 use lib.Ieee.{Float}
 use lib.ListN.{length}
-use Rattle.exponents.specs.Outcome.{Refusal, RANGE, UNITS, FRACTION, Outcome, given, refused, map}
+use Rattle.exponents.specs.Outcome.{Refusal, RANGE, UNITS, Outcome, given, refused, map}
 use Rattle.exponents.specs.declared.Exponent.{Exponent}
 use Rattle.exponents.proofs.Holds.{bind-given}
 use Rattle.exponents.proofs.Rationals.{value}

@@ -10,6 +10,7 @@ use Rattle.units.specs.declared.Factor.{Factor}
 use Rattle.units.specs.declared.Kind.the-variants.{Base, Derived}
 use Rattle.units.specs.declared.Row.{Row}
 use Rattle.units.specs.declared.Rows.{Rows}
+use Rattle.lent.specs.Lent.{lentRows}
 
 -- a row's number, a prefix and a whole exponent
 abbrev pub factor : ℕ → Prefix → ℤ → Factor
@@ -51,18 +52,18 @@ byte = 6
 abbrev pub newton : ℕ
 newton = 7
 
--- ranks in the order of the names: bit, byte, gram, minute, hour, metre, newton, second
+-- eight rows, as a caller lends them; ranks in the order of the names: bit, byte, gram, minute, hour, metre, newton, second
+unfoldable pub rows : List Row
+rows =
+    baseRow 2
+    ∷ baseRow 5
+    ∷ baseRow 7
+    ∷ baseRow 0
+    ∷ derivedRow 3 0x404e_0000_0000_0000 (plain second (pos 1) ∷ [])
+    ∷ derivedRow 4 0x404e_0000_0000_0000 (plain minute (pos 1) ∷ [])
+    ∷ derivedRow 1 0x4020_0000_0000_0000 (plain bit (pos 1) ∷ [])
+    ∷ derivedRow 6 0x3ff0_0000_0000_0000 (factor gram (Metric (pos 3)) (pos 1) ∷ plain metre (pos 1) ∷ plain second (negsuc 1) ∷ [])
+    ∷ []
+
 unfoldable pub table : Rows
-table = record {
-  at =
-      baseRow 2
-      ∷ baseRow 5
-      ∷ baseRow 7
-      ∷ baseRow 0
-      ∷ derivedRow 3 0x404e_0000_0000_0000 (plain second (pos 1) ∷ [])
-      ∷ derivedRow 4 0x404e_0000_0000_0000 (plain minute (pos 1) ∷ [])
-      ∷ derivedRow 1 0x4020_0000_0000_0000 (plain bit (pos 1) ∷ [])
-      ∷ derivedRow 6 0x3ff0_0000_0000_0000 (factor gram (Metric (pos 3)) (pos 1) ∷ plain metre (pos 1) ∷ plain second (negsuc 1) ∷ [])
-      ∷ [];
-  len = 8;
-}
+table = lentRows rows

@@ -1,6 +1,7 @@
 -- Equality and order of values, once the second is converted (01, "Conversion, sums, comparison", "The refusals").
 use mathlib.Core.Bool.{Bool, false, _||_}
-use Prim.Native.Nat.{Ordering, Ordering·lt, Ordering·eq, Ordering·gt}
+use mathlib.Core.Option.{Option, some, none}
+use Prim.Native.Nat.{ℕ, Ordering, Ordering·lt, Ordering·eq, Ordering·gt}
 use lib.Dec.{eqb}
 use lib.Ieee.{Float, isNan, lt, eq}
 use Rattle.exponents.specs.Outcome.{Outcome, given, refused, UNITS, NAN, number, unless}
@@ -27,6 +28,13 @@ comparedOf (given Ordering·lt) = Less
 comparedOf (given Ordering·eq) = Equal
 comparedOf (given Ordering·gt) = Greater
 comparedOf (refused r) = Refused (number r)
+
+-- 01's number and order in each case: none beside a refusal
+abbrev pub comparedTold : Compared → ℕ × Option Ordering
+comparedTold Less = (0, some Ordering·lt)
+comparedTold Equal = (0, some Ordering·eq)
+comparedTold Greater = (0, some Ordering·gt)
+comparedTold (Refused n) = (n, none)
 
 abbrev pub judgement : Float → Converted → Verdict
 judgement x (converted.Value y) = pick (eq x y) verdict.Yes verdict.No

@@ -43,3 +43,9 @@ abbrev pub multipleIs : Outcome Maybe → Multiple
 multipleIs (given (times q)) = Times q
 multipleIs (given none) = None
 multipleIs (refused r) = Refused (number r)
+
+-- 01's number and multiple in each case: none beside a refusal
+abbrev pub multipleTold : Multiple → ℕ × Maybe
+multipleTold (Times q) = (0, times q)
+multipleTold None = (0, none)
+multipleTold (Refused n) = (n, none)

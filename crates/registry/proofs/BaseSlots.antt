@@ -17,12 +17,12 @@ use Rattle.canonical.proofs.Keeping.{pick-is}
 
 -- ---- what holds of each that is put in
 module _ (P : Slot → Type 0) where
-  placed-all : (s : Slot) (l : List Slot) → P s → All P l → All P (placed s l)
+  pub placed-all : (s : Slot) (l : List Slot) → P s → All P l → All P (placed s l)
   unfolding placed
   placed-all s [] p h = (p, tt)
   placed-all s (t ∷ l) p h = pick-is (All P) (ltb (s .rank) (t .rank)) (p, placed-all t l (h .0) (h .1)) (h .0, placed-all s l p (h .1))
 
-  slotted-all : (k : Kind) (s : Slot) (l : List Slot) → P s → All P l → All P (slotted k s l)
+  pub slotted-all : (k : Kind) (s : Slot) (l : List Slot) → P s → All P l → All P (slotted k s l)
   unfolding slotted
   slotted-all (Derived f) s l p h = h
   slotted-all Base s l p h = pick-is (All P) (ltb (length l) 16) (placed-all s l p h) h
@@ -61,20 +61,20 @@ slots-from-apart i l (r ∷ rs) h a =
 pub slots-apart : (rs : List Row) → Apart (slots rs)
 slots-apart rs = slots-from-apart 0 [] rs tt tt
 
--- ---- they are base rows: P holds of each base row's number
-module _ (P : ℕ → Type 0) (d : Row) where
-  slots-from-base : (i : ℕ) (l : List Slot) (rs : List Row) → All (λ s. P (s .row)) l → ((j : ℕ) → j < length rs → getD rs j d .kind ≡ Base → P (i + j)) → All (λ s. P (s .row)) (slotsFrom i l rs)
+-- ---- they are base rows: P holds of each base row's number and rank
+module _ (P : Slot → Type 0) (d : Row) where
+  slots-from-base : (i : ℕ) (l : List Slot) (rs : List Row) → All P l → ((j : ℕ) → j < length rs → getD rs j d .kind ≡ Base → P (record { row = i + j; rank = getD rs j d .rank })) → All P (slotsFrom i l rs)
   unfolding slotsFrom slotted
   slots-from-base i l [] h f = h
   slots-from-base i l (r ∷ rs) h f =
-      slots-from-base (suc i) (slotted (r .kind) own l) rs (here (r .kind) refl) (λ j p e. subst P (omega arith) (f (suc j) (omega arith) e))
+      slots-from-base (suc i) (slotted (r .kind) own l) rs (here (r .kind) refl) (λ j p e. subst (λ n. P (record { row = n; rank = getD rs j d .rank })) (omega arith) (f (suc j) (omega arith) e))
     where
       own : Slot
       own = record { row = i; rank = r .rank }
 
-      here : (k : Kind) → r .kind ≡ k → All (λ s. P (s .row)) (slotted k own l)
+      here : (k : Kind) → r .kind ≡ k → All P (slotted k own l)
       here (Derived x) e = h
-      here Base e = slotted-all (λ s. P (s .row)) Base own l (subst P (omega arith) (f 0 (omega arith) e)) h
+      here Base e = slotted-all P Base own l (subst (λ n. P (record { row = n; rank = r .rank })) (omega arith) (f 0 (omega arith) e)) h
 
-pub slots-base : (rs : List Row) (d : Row) → All (λ s. (s .row < length rs) × (getD rs (s .row) d .kind ≡ Base)) (slots rs)
-slots-base rs d = slots-from-base (λ n. (n < length rs) × (getD rs n d .kind ≡ Base)) d 0 [] rs tt (λ j h e. rw (nat.zero-add j) (h, e))
+pub slots-base : (rs : List Row) (d : Row) → All (λ s. (s .row < length rs) × (getD rs (s .row) d .kind ≡ Base) × (getD rs (s .row) d .rank ≡ s .rank)) (slots rs)
+slots-base rs d = slots-from-base (λ s. (s .row < length rs) × (getD rs (s .row) d .kind ≡ Base) × (getD rs (s .row) d .rank ≡ s .rank)) d 0 [] rs tt (λ j h e. rw (nat.zero-add j) (h, e, refl))

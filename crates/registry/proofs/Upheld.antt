@@ -2,8 +2,7 @@
 use mathlib.Core.Path.{_≡_, refl, sym}
 use mathlib.Core.Bool.{Bool, true, false, _&&_, true≢false}
 use mathlib.Core.List.{List, [], _∷_}
-use Prim.Native.Nat.{ℕ, _≤_}
-use native.Mathlib.Omega.{arith}
+use Prim.Native.Nat.{ℕ}
 use lib.Dec.{ltb, eqb}
 use lib.Ieee.{Float}
 use lib.ListN.{length}
@@ -28,13 +27,12 @@ use Rattle.canonical.specs.Canonical.{sameAll}
 use Rattle.canonical.proofs.Bases.{Agree}
 use Rattle.canonical.proofs.Total.{orderIn-total}
 use Rattle.reduction.specs.Reduction.{reduced}
-use Rattle.reduction.proofs.Reducing.{reduced-short}
 use Rattle.lists.specs.Opening.{table, baseRows}
 use Rattle.lists.specs.Calls.{basesIn}
 use Rattle.conversion.proofs.Refusals.{base-only, fraction-only, scale-is}
 use Rattle.simplification.specs.Rules.{Rules, rulesIn, convertBy}
 use Rattle.simplification.specs.Steps.{Amount}
-use Rattle.simplification.proofs.Sounding.{every, checked-passed}
+use Rattle.simplification.proofs.Sounding.{every}
 use Rattle.simplification.proofs.Agreed.{agree-self, agree-sym, same-agree}
 use Rattle.simplification.proofs.NeverUnits.{either-only, agreeing-only}
 use Rattle.simplification.proofs.Kept.{admits}
@@ -101,11 +99,6 @@ module _ (R : Rules) (now : Amount) where
   -- of the list alone
   on-list : (P : List Factor → Type 0) (m : List Factor) → P m → Converts (λ a. P (a .1)) m
   on-list P m p = holds-imp (holds-any (convertBy R (now .1) m (now .0))) λ _ _. p
-
-  -- ---- lists of at most 16 factors
-  pub registered-short : (ss : List Slot) (ms : List (List Factor)) → length ss ≤ 16 → All (λ m. length m ≤ 16) ms → length (now .1) ≤ 16 → Holds (λ a. length (a .1) ≤ 16) (registered R ss ms now)
-  registered-short ss ms few h n =
-      registered-any (λ a. length (a .1) ≤ 16) ss ms n (λ xs _. on-list (λ m. length m ≤ 16) (reduced ss xs) (omega (arith, reduced-short ss xs))) (all-imp ms (on-list (λ m. length m ≤ 16)) h)
 
   -- ---- base exponents: xs are those of what is left
   module _ (xs : List Exponent) (e : base (R .bases) (now .1) ≡ given xs) where
@@ -182,6 +175,3 @@ module _ (t : Rows) (ks : List Facts) (k : table t ≡ given ks) (ms : List (Lis
 -- ---- the candidates' lists: what holds of a list that passed
 pub candidates-all : (P : List Factor → Type 0) (rows : ℕ) → ((l : Factors) → Holds P (checked rows l)) → (c : Candidates) → Holds (All P) (candidateLists rows c)
 candidates-all P rows f c = holds-imp (candidates-hold rows (λ _ m. P m) (λ x. f (x .unit)) c) λ ms h. along-all (h .1)
-
-pub candidates-short : (rows : ℕ) (c : Candidates) → Holds (All (λ m. length m ≤ 16)) (candidateLists rows c)
-candidates-short rows = candidates-all (λ m. length m ≤ 16) rows λ l. holds-imp (checked-passed rows l) λ fs h. h .0

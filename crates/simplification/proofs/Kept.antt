@@ -35,7 +35,7 @@ use Rattle.simplification.specs.Rules.{Rules, rulesIn, convertBy}
 use Rattle.simplification.specs.Steps.{grown, converted, byGroups, further, simplify}
 use Rattle.simplification.proofs.Sounding.{attempt-holds, toward-holds, row-known, checked-passed}
 use Rattle.simplification.proofs.Agreed.{agree-trans, agree-behind, agree-before, canon-agree, convert-agree}
-use Rattle.simplification.proofs.NeverUnits.{NotUnits, never, fraction-not-units, Keeps, GroupsKeep, group-converts, byGroups-only, simplify-only}
+use Rattle.simplification.proofs.NeverUnits.{NotUnits, never, fraction-not-units, Keeps, GroupsKeep, group-converts, second-converts, byGroups-only, simplify-only}
 
 -- ---- by any rules
 module _ (R : Rules) (O : Total (R .order)) where
@@ -101,6 +101,10 @@ module _ (t : Rows) (ks : List Facts) (k : table t ≡ given ks) where
 
   form-keeps : (l : List Factor) → All (Known ks) l → GroupsKeep rules (orderIn-total ks) l
   form-keeps l h c e = groups-keep c (take-out (canon-atoms (λ a. a .row < length ks) (rules .order) l h) e)
+
+  -- THE SECOND STEP: the conversion to its one factor is never refused by UNITS, whatever the value
+  pub second-never : (l c : List Factor) → canon (rules .order) l ≡ given c → (f : Factor) (m : List Factor) → single (rules .bases) c ≡ given (f ∷ m) → (v : Float) → convertBy rules l (f ∷ m) v ≡ refused UNITS → ⊥
+  second-never = second-converts rules (orderIn-total ks)
 
   -- THE THIRD STEP: the conversion of a group to its target is never refused by UNITS, whatever the value
   pub groups-convert : (c : List Factor) → All (Known ks) c → (v : Float) →

@@ -1,4 +1,4 @@
--- What simplification is refused by (01, "Simplification"): where each group's target has the group's base exponents, RANGE and FRACTION alone. The conversions of the third step can't answer UNITS, and those before it hand UNITS on.
+-- What simplification is refused by (01, "Simplification"): where each group's target has the group's base exponents, RANGE and FRACTION alone. The conversions of the second and of the third step can't answer UNITS; that to scalar hands it on.
 use mathlib.Core.Path.{_≡_, refl, sym, _∙_, ap}
 use mathlib.Core.Bool.{Bool, true, false, _||_, true≢false}
 use mathlib.Core.List.{List, [], _∷_}
@@ -26,7 +26,9 @@ use Rattle.conversion.proofs.Faithful.{convert-only}
 use Rattle.conversion.proofs.Refusals.{range-not-units, units-not-fraction, sum-only, each-only, base-only, canon-only}
 use Rattle.targets.specs.Single.{wholly, search, single}
 use Rattle.targets.specs.Groups.{share, summed, fitted, target, groups}
+use Rattle.targets.proofs.Multiplied.{single-found}
 use Rattle.simplification.specs.Rules.{Rules, convertBy}
+use Rattle.simplification.proofs.Agreed.{agree-trans, canon-agree}
 use Rattle.simplification.specs.Steps.{Amount, goOn, attempt, grown, converted, byGroups, toward, further, simplify}
 
 pub either-only : {A : Type 0} (S : Refusal → Type 0) {a b : Outcome A} (t : Bool) → Only S a → Only S b → Only S (pick t a b)
@@ -141,3 +143,9 @@ module _ (R : Rules) (O : Total (R .order)) where
   -- the conversion of a group to its target is never refused by UNITS
   pub group-converts : (g : List Factor) → Keeps g → (v : Float) → Holds (λ m. convertBy R g m v ≡ refused UNITS → ⊥) (target (R .bases) (R .isBase) (R .lead) g)
   group-converts g k v = holds-imp k λ m a. never (agreeing-only NotUnits range-not-units fraction-not-units g m v a)
+
+  -- nor is that of the second step: its factor has the base exponents of the list, so that the first one that fits ends the search
+  pub second-converts : (l c : List Factor) → canon (R .order) l ≡ given c → (f : Factor) (m : List Factor) → single (R .bases) c ≡ given (f ∷ m) → (v : Float) → convertBy R l (f ∷ m) v ≡ refused UNITS → ⊥
+  second-converts l c e f m s v =
+      never (agreeing-only NotUnits range-not-units fraction-not-units l (f ∷ m) v
+      (agree-trans value (R .bases) l c (f ∷ m) (take-out (canon-agree value (R .order) O (R .bases) l) e) (take-out (single-found (R .bases) c) s)))

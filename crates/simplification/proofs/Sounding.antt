@@ -90,9 +90,6 @@ all-any l = every l (λ f. tt)
 pub simplify-no-longer : (R : Rules) (v : Float) (l : List Factor) → Holds (λ a. length (a .1) ≤ length l) (simplify R v l)
 simplify-no-longer R v l = holds-imp (simplify-within (λ _. Unit {0}) (λ f e p s. tt) R (length l) v l (omega arith, all-any l)) λ a h. h .0
 
-pub simplify-short : (R : Rules) (v : Float) (l : List Factor) → length l ≤ 16 → Holds (λ a. length (a .1) ≤ 16) (simplify R v l)
-simplify-short R v l h = holds-imp (simplify-no-longer R v l) λ a k. omega arith
-
 -- ---- and passes where that passes
 module _ (rows : ℕ) where
   -- a factor that passes

@@ -76,7 +76,7 @@ module _ (ss : List Slot) where
       right d zero p = rw append-nil (take-out (known ss js r) e)
       right d (suc i) p = subst (λ l. Known ss l (getD rs i d) (getD (h .more) i nobody)) (append-assoc js (k ∷ []) (take i (h .more))) (h .right d i (omega arith))
 
-  admit-on : (js : List Facts) (o : Outcome Facts) (next : Facts → Admission) (ks : List Facts) {P : Type 0} →
+  pub admit-on : (js : List Facts) (o : Outcome Facts) (next : Facts → Admission) (ks : List Facts) {P : Type 0} →
       admitOn o js next ≡ admitted ks → ((k : Facts) → o ≡ given k → next k ≡ admitted ks → P) → P
   admit-on js (given k) next ks e f = f k refl e
   admit-on js (refused w) next ks e f = absurd (let z : _≡_ {A = ℕ} 0 1 = cc in omega arith)

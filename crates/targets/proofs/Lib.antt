@@ -3,5 +3,6 @@ pub mod Searching
 pub mod Fitted
 pub mod Within
 pub mod Dividing
+pub mod Multiplied
 pub mod Proportions
 pub mod Partition

@@ -1,0 +1,88 @@
+-- Demand 3 at two calls as they ship, by the transport: `convert_to` and `full_simplify`, over lent rows and as exported functions.
+use mathlib.Core.Path.{_≡_}
+use mathlib.Core.Bool.{false}
+use mathlib.Core.Logic.{_↔_}
+use mathlib.Core.List.{List}
+use Prim.Native.Nat.{ℕ, _≤_}
+use lib.Ieee.{Float, mul, div}
+use lib.Ieee as ieee
+use lib.ListN.{length}
+use Rattle.exponents.specs.Outcome.{UNITS, Outcome, given, refused}
+use Rattle.exponents.specs.declared.Exponent.{Exponent}
+use Rattle.exponents.proofs.Holds.{Holds}
+use Rattle.floats.specs.Values.{isZero}
+use Rattle.units.specs.declared.Factor.{Factor}
+use Rattle.units.specs.declared.Factors.{Factors}
+use Rattle.units.specs.declared.Quantity.{Quantity}
+use Rattle.units.specs.declared.Row.{Row}
+use Rattle.units.specs.declared.Rows.{Rows}
+use Rattle.units.specs.Lists.{listOf, checked, both}
+use Rattle.lent.specs.Lent.{lentRows}
+use Rattle.tables.specs.Rows.{Facts}
+use Rattle.canonical.specs.Order.{orderIn}
+use Rattle.lists.specs.Opening.{table}
+use Rattle.lists.specs.Calls.{sameLists}
+use Rattle.common.specs.Common.{common, over}
+use Rattle.values.specs.Quantities.{fresh, answeredOf}
+use Rattle.values.specs.declared.answers.Answer.{Answer}
+use Rattle.quantities.specs.Calls.{convertTo}
+use Rattle.simplification.specs.Calls.{fullSimplify}
+use Rattle.wire.specs.Arguments.{tableFrom, quantityFrom, listFrom}
+use Rattle.requests.specs.Calls as requests
+use Rattle.demsharin.specs.Exports.{Exported}
+use Rattle.promises.specs.Shipped.{outcomeIn, outcomeFrom}
+use Rattle.promises.proofs.Demands as demand
+use Rattle.promises.proofs.Demands.{SameBase, Scale, InRange}
+use Rattle.promises.proofs.Fitting.{convert-fits, simplify-fits, read-fits}
+use Rattle.promises.proofs.Shipped.{over-rows, over-bytes}
+
+-- ---- `convert_to`: a nonzero value, unequal lists, and none of the five steps leaves the range
+module _ (t : Rows) (ks : List Facts) (k : table t ≡ given ks) (q : Quantity) (m : Factors) (fs gs : List Factor) (h : both (length ks) (q .unit) m ≡ given (fs, gs))
+    (nonzero : isZero (q .value) ≡ false) (unequal : sameLists t (q .unit) m ≡ given false) {cl cm l : List Factor} {x y : List Exponent} (s : InRange t ks k q m fs gs h cl cm l x y) where
+  -- what an answer must be: UNITS exactly where base exponents differ; the scaled value where they agree
+  pub record Converts (o : Outcome Quantity) : Type 0 where
+    pub units : (o ≡ refused UNITS) ↔ (SameBase t ks k fs gs → ⊥)
+    pub scaled : SameBase t ks k fs gs → (own target : Float) → Scale t ks k (over fs (common (orderIn ks) cl cm)) ≡ given own → Scale t ks k l ≡ given target →
+        o ≡ given (fresh (div ieee.binary64 (mul ieee.binary64 (q .value) own) target) gs)
+
+  pub converts : Converts (convertTo t q m)
+  converts = record { units = demand.units-exactly t ks k q m fs gs h nonzero unequal s; scaled = demand.scaled-value t ks k q m fs gs h nonzero unequal s }
+
+-- over lent rows: r is what `convert_to` hands over, by its contract
+module _ (rs : List Row) (ks : List Facts) (k : table (lentRows rs) ≡ given ks) (q : Quantity) (m : Factors) (fs gs : List Factor) (h : both (length ks) (q .unit) m ≡ given (fs, gs))
+    (nonzero : isZero (q .value) ≡ false) (unequal : sameLists (lentRows rs) (q .unit) m ≡ given false) {cl cm l : List Factor} {x y : List Exponent} (s : InRange (lentRows rs) ks k q m fs gs h cl cm l x y)
+    (r : Answer) (contract : r ≡ answeredOf (convertTo (lentRows rs) q m)) where
+  pub lent-converts : Converts (lentRows rs) ks k q m fs gs h nonzero unequal s (outcomeIn r)
+  lent-converts = over-rows (Converts (lentRows rs) ks k q m fs gs h nonzero unequal s) (convertTo (lentRows rs) q m) (converts (lentRows rs) ks k q m fs gs h nonzero unequal s) r contract
+
+-- as an exported function, over the bytes of a table, a quantity and a list: it returned n and left `end` in the room, by its contract
+module _ (tb qb mb : List ℕ) where
+  abbrev t : Rows
+  t = tableFrom tb
+
+  abbrev q : Quantity
+  q = quantityFrom qb
+
+  abbrev m : Factors
+  m = listFrom mb
+
+  module _ (room : List ℕ) (long : 336 ≤ length room) (n : ℕ) (end : List ℕ) where
+    module _ (ks : List Facts) (k : table t ≡ given ks) (fs gs : List Factor) (h : both (length ks) (q .unit) m ≡ given (fs, gs))
+        (nonzero : isZero (q .value) ≡ false) (unequal : sameLists t (q .unit) m ≡ given false) {cl cm l : List Factor} {x y : List Exponent} (s : InRange t ks k q m fs gs h cl cm l x y)
+        (contract : Exported room (requests.convertTo tb qb mb) n end) where
+      pub exported-converts : Converts t ks k q m fs gs h nonzero unequal s (outcomeFrom n end)
+      unfolding requests.convertTo
+      exported-converts =
+          over-bytes (Converts t ks k q m fs gs h nonzero unequal s) (convertTo t q m) (converts t ks k q m fs gs h nonzero unequal s) (convert-fits t q (read-fits qb) m) room long n end contract
+
+    -- ---- `full_simplify` of a nonzero value, if it answers, keeps base exponents
+    module _ (ks : List Facts) (k : table t ≡ given ks) (fs : List Factor) (h : checked (length ks) (q .unit) ≡ given fs) (nonzero : isZero (q .value) ≡ false) (contract : Exported room (requests.fullSimplify tb qb) n end) where
+      pub exported-simplifies : Holds (λ p. SameBase t ks k fs (listOf (p .unit))) (outcomeFrom n end)
+      unfolding requests.fullSimplify
+      exported-simplifies =
+          over-bytes (Holds (λ p. SameBase t ks k fs (listOf (p .unit)))) (fullSimplify t q) (demand.simplify-keeps t ks k q fs h nonzero) (simplify-fits t q (read-fits qb)) room long n end contract
+
+module _ (rs : List Row) (ks : List Facts) (k : table (lentRows rs) ≡ given ks) (q : Quantity) (fs : List Factor) (h : checked (length ks) (q .unit) ≡ given fs) (nonzero : isZero (q .value) ≡ false)
+    (r : Answer) (contract : r ≡ answeredOf (fullSimplify (lentRows rs) q)) where
+  pub lent-simplifies : Holds (λ p. SameBase (lentRows rs) ks k fs (listOf (p .unit))) (outcomeIn r)
+  lent-simplifies = over-rows (Holds (λ p. SameBase (lentRows rs) ks k fs (listOf (p .unit)))) (fullSimplify (lentRows rs) q) (demand.simplify-keeps (lentRows rs) ks k q fs h nonzero) r contract
