@@ -1,7 +1,7 @@
 #!/usr/bin/env python3
 """Writes the files that `replay` must find wrong, its arguments and what it is to print.
 
-  make.py      beside data/call-NN.bin, data/edges-*.bin and data/named-simplifications.bin
+  make.py      beside data/call-NN.bin, data/edges-*.bin and data/named-*.bin
 
 wrong.bin is the first records of a stored file with three answers spoiled; cut.bin is a stored file's first bytes.
 How many records a file has is counted here, by the lengths in its bytes.
@@ -67,7 +67,8 @@ def said(name, right, found, used):
 
 def main():
     names = [f"call-{code:02}.bin" for code in STANDING]
-    names += ["edges-admissions.bin", "edges-limits.bin", "named-simplifications.bin"]
+    names += ["edges-admissions.bin", "edges-limits.bin"]
+    names += ["named-rules.bin", "named-simplifications.bin", "named-sixteenth.bin"]
     stored = {name: (DATA / name).read_bytes() for name in names}
     source = list(records(stored["call-18.bin"]))[:40]
     wrong = [(request, framed(spoil(k, answer))) for k, (request, answer) in enumerate(source)]

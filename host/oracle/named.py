@@ -72,9 +72,10 @@ def list_of(unit, names):
     return words(len(given)) + places(16, given, PAST)
 
 
-def rows_of(units):
+def rows_of(units, order=None):
+    """The order of ranks is that of the names' bytes unless said."""
     names = list(units)
-    ranks = [sorted(names).index(name) for name in names]
+    ranks = [(order or sorted(names)).index(name) for name in names]
     kinds = [(d[0], factors(d[1], names)) if d else (None, []) for d in units.values()]
     return table_bytes([(rank, *kind) for rank, kind in zip(ranks, kinds)])
 
@@ -285,14 +286,18 @@ def table(*files):
         print("| " + " | ".join([label, *named]) + " |")
 
 
-def main(word="", *files):
-    simplifying = (examples, roots, groups, multiples, ranges)
-    for part in simplifying + (choices, base_units, scales, orders, marks, values, sixteen):
-        part()
+def told(word="", *files):
     if word == "requests":
         sys.stdout.buffer.write(b"".join(asked for _, _, asked in cases))
     else:
         {"store": store, "table": table}[word](*files)
+
+
+def main(*words):
+    simplifying = (examples, roots, groups, multiples, ranges)
+    for part in simplifying + (choices, base_units, scales, orders, marks, values, sixteen):
+        part()
+    told(*words)
 
 
 if __name__ == "__main__":

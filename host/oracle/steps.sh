@@ -283,20 +283,28 @@ edges() {
     return $failed
 }
 
-# The named cases of simplification, with the Rust's answers inside its domain and 01's reading's elsewhere; nothing is
-# stored if the two differ inside it.
+# The named cases: of simplification, of the rules that the algebra leaves free, of a sixteenth base row.
 named() {
-    local by
-    python3 -B "$here/named.py" requests >"$streams/requests"
+    named_file simplifications named.py
+    named_file rules pinned.py rules
+    named_file sixteenth pinned.py sixteenth
+    python3 "$root/crates/replay/make.py"
+}
+
+# named_file NAME SCRIPT ..: a script's cases, with the Rust's answers inside its domain and 01's reading's elsewhere;
+# nothing is stored if the two differ inside it.
+named_file() {
+    local file=$records/named-$1.bin by
+    local cases=(python3 -B "$here/$2" "${@:3}")
+    "${cases[@]}" requests >"$streams/requests"
     program oracle <"$streams/requests" >"$streams/rust"
     program oracle --reading <"$streams/requests" >"$streams/reading"
-    python3 -B "$here/named.py" store "$streams/records" "$streams"/{rust,reading}
+    "${cases[@]}" store "$streams/records" "$streams"/{rust,reading}
     program store split "$streams/requests" "$streams/stored" "$streams/records"
     program compare "$streams"/{requests,rust,reading,stored}
-    cp "$streams/records" "$records/named-simplifications.bin"
+    cp "$streams/records" "$file"
     for by in rust reading; do program decode "$streams/requests" "$streams/$by" >"$streams/$by.text"; done
-    python3 -B "$here/named.py" table "$streams"/{rust,reading}.text
-    python3 "$root/crates/replay/make.py"
+    "${cases[@]}" table "$streams"/{rust,reading}.text
 }
 
 # What `calls` answers in the gate, and 01's answers: requests with many faults, the last one cut short.

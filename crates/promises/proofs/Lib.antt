@@ -1,4 +1,6 @@
+pub mod Saying
 pub mod Bench
+pub mod Pinned
 pub mod Conversion
 pub mod Products
 pub mod Unadmitted

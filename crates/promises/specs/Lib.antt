@@ -1,3 +1,4 @@
 pub mod Table
+pub mod Shop
 pub mod Demand
 pub mod Shipped

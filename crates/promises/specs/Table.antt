@@ -16,14 +16,18 @@ use Rattle.lent.specs.Lent.{lentRows}
 abbrev pub factor : ℕ → Prefix → ℤ → Factor
 factor r p n = record { row = r; prefix = p; exponent = record { num = n; den = 1 } }
 
+-- the same to the exponent n/d
+abbrev pub root : ℕ → Prefix → ℤ → ℕ → Factor
+root r p n d = record { row = r; prefix = p; exponent = record { num = n; den = d } }
+
 abbrev pub plain : ℕ → ℤ → Factor
 plain r n = factor r (Metric (pos 0)) n
 
-abbrev baseRow : ℕ → Row
+abbrev pub baseRow : ℕ → Row
 baseRow rank = record { def = []; len = 0; rank = rank; kind = Base }
 
 -- the factor by its bits
-abbrev derivedRow : ℕ → ℕ → List Factor → Row
+abbrev pub derivedRow : ℕ → ℕ → List Factor → Row
 derivedRow rank bits l = record { def = l; len = length l; rank = rank; kind = Derived (ofBits binary64 bits) }
 
 -- ---- the rows' numbers
