@@ -138,6 +138,16 @@ from-rising i l (r ∷ rs) f d h =
     (slotted-rising (r .kind) own l (all-imp l (λ u p e. p .0 (sym e)) f) h)
 
 -- ---- admission sees to both
+
+-- a row without a TABLE fault, after js: its rank is met by none of them, and its kind is no fault
+rank-and-kind : (js : List Facts) (r : Row) → tableFault js r ≡ false → (some (λ k. eqb (k .rank) (r .rank)) js ≡ false) × (kindFault (r .kind) (count js) (r .len) ≡ false)
+unfolding tableFault
+rank-and-kind js r e =
+    let met = some (λ (k : Facts). eqb (k .rank) (r .rank)) js in
+    let kind = kindFault (r .kind) (count js) (r .len) in
+    let two = or-left (met || kind) (ltb 8 (r .len)) (or-left (met || kind || ltb 8 (r .len)) (some (unknown (length js)) (defOf r)) e) in
+    (or-left met kind two, or-right met kind two)
+
 module _ (ss : List Slot) where
   all-front : (P : Facts → Type 0) (js : List Facts) (k : Facts) → All P (js ++ (k ∷ [])) → All P js × P k
   all-front P [] k h = (tt, h .0)
@@ -145,13 +155,11 @@ module _ (ss : List Slot) where
 
   -- the rows rs, admitted after js, have ranks of their own
   ranks-apart : (js : List Facts) (rs : List Row) (ks : List Facts) → admitFrom ss js rs ≡ admitted ks → All (λ k. All (λ q. q .rank ≡ k .rank → ⊥) rs) js × Distinct rs
-  unfolding admitFrom tableFault
+  unfolding admitFrom
   ranks-apart js [] ks e = (every js (λ k. tt), tt)
   ranks-apart js (r ∷ rs) ks e = admit-on ss js (rowFacts ss js r) _ ks e λ k p q.
       let own = take-out (known ss js r) p in
-      let met = each-faultless (λ (f : Facts). eqb (f .rank) (r .rank)) js (or-left (some (λ (f : Facts). eqb (f .rank) (r .rank)) js) (kindFault (r .kind) (count js) (r .len))
-      (or-left (some (λ (f : Facts). eqb (f .rank) (r .rank)) js || kindFault (r .kind) (count js) (r .len)) (ltb 8 (r .len))
-      (or-left (some (λ (f : Facts). eqb (f .rank) (r .rank)) js || kindFault (r .kind) (count js) (r .len) || ltb 8 (r .len)) (some (unknown (length js)) (defOf r)) (own .table)))) in
+      let met = each-faultless (λ (f : Facts). eqb (f .rank) (r .rank)) js (rank-and-kind js r (own .table) .0) in
       let rest = ranks-apart (js ++ (k ∷ [])) rs ks q in
       let split = all-front (λ (f : Facts). All (λ (q : Row). q .rank ≡ f .rank → ⊥) rs) js k (rest .0) in
       (both-all js (all-imp js (λ f n x. eqb-false (f .rank) (r .rank) n (sym x)) met) (split .0), (all-imp rs (λ w n x. n (x ∙ sym (own .rank))) (split .1), rest .1))
@@ -163,15 +171,11 @@ module _ (ss : List Slot) where
   module _ (rs : List Row) (ks : List Facts) (h : admitFrom ss [] rs ≡ admitted ks) (d : Row) where
     -- at most fifteen base rows stand before a base row
     few-before : (i : ℕ) → i < length rs → getD rs i d .kind ≡ Base → count (take i ks) < 16
-    unfolding tableFault kindFault
+    unfolding kindFault
     few-before i p e =
-        let r = getD rs i d in
-        let js = take i ks in
-        let kind = or-right (some (λ (f : Facts). eqb (f .rank) (r .rank)) js) (kindFault (r .kind) (count js) (r .len))
-        (or-left (some (λ (f : Facts). eqb (f .rank) (r .rank)) js || kindFault (r .kind) (count js) (r .len)) (ltb 8 (r .len))
-        (or-left (some (λ (f : Facts). eqb (f .rank) (r .rank)) js || kindFault (r .kind) (count js) (r .len) || ltb 8 (r .len)) (some (unknown (length js)) (defOf r)) (row-known ss rs ks h d i p .table))) in
-        let few = or-left (ltb 15 (count js)) (not (eqb (r .len) 0)) (subst (λ k. kindFault k (count js) (r .len) ≡ false) e kind) in
-        omega (arith, ltb-false 15 (count js) few)
+        let kind = rank-and-kind (take i ks) (getD rs i d) (row-known ss rs ks h d i p .table) .1 in
+        let few = or-left (ltb 15 (count (take i ks))) (not (eqb (getD rs i d .len) 0)) (subst (λ k. kindFault k (count (take i ks)) (getD rs i d .len) ≡ false) e kind) in
+        omega (arith, ltb-false 15 (count (take i ks)) few)
 
 -- ---- in an admitted table
 module _ (t : Rows) (ks : List Facts) (a : admit t ≡ admitted ks) (d : Row) where

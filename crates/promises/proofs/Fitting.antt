@@ -1,5 +1,5 @@
 -- Every quantity, list and multiple that a call answers fits its bytes, so that what is written is read back as the answer.
-use mathlib.Core.Path.{_≡_, refl, ap}
+use mathlib.Core.Path.{_≡_}
 use mathlib.Core.Bool.{Bool, true, false}
 use mathlib.Core.List.{List, _++_, map as along}
 use Prim.Native.Nat.{ℕ, _≤_, _<_, Ordering}
@@ -14,7 +14,7 @@ use lib.ListN.{length}
 use Rattle.exponents.specs.Outcome.{Outcome, given, DIVZERO, ZERONEG, map}
 use Rattle.exponents.specs.Fractions.{most}
 use Rattle.exponents.specs.declared.Exponent.{Exponent}
-use Rattle.exponents.proofs.Holds.{Holds, moot, held, holds-any, holds-imp, holds-both, holds-unless, holds-map, holds-bind}
+use Rattle.exponents.proofs.Holds.{Holds, held, holds-any, holds-imp, holds-both, holds-unless, holds-map, holds-bind}
 use Rattle.exponents.proofs.InRange.{InRange, or-left, sound}
 use Rattle.floats.specs.Values.{isZero}
 use Rattle.floats.proofs.Laws as floats
@@ -215,10 +215,6 @@ module _ (t : Rows) (a : Factors) where
 -- THEOREM: a quantity's bytes, whatever stands behind them, read as the quantity
 pub read-back : (q : Quantity) → QuantityFits q → (s : List ℕ) → quantityAt (quantityBytes q ++ s) 0 ≡ q
 read-back q h s = quantity-form .back q s h
-
-pub answer-back : {o : Outcome Quantity} → Holds QuantityFits o → (s : List ℕ) → map (λ bs. quantityAt (bs ++ s) 0) (map quantityBytes o) ≡ o
-answer-back moot s = refl
-answer-back (held {a = q} h) s = ap given (read-back q h s)
 
 -- a quantity read has a value that fits, so that no call on bytes has to ask for it
 pub read-fits : (s : List ℕ) → ValueFits (quantityFrom s .value)

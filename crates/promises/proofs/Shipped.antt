@@ -19,6 +19,7 @@ use Rattle.wire.proofs.Round.{QuantityFits, quantity-form}
 use Rattle.replies.specs.Replies.{sent, left}
 use Rattle.demsharin.specs.Exports.{Exported}
 use Rattle.promises.specs.Shipped.{named, heard, outcomeIn, outcomeFrom}
+use Rattle.promises.proofs.Fitting.{read-back}
 
 -- ---- lent rows: a slice of at most 128 rows is the table's rows
 pub rows-back : (rs : List Row) → length rs ≤ 128 → rowsOf (lentRows rs) ≡ rs
@@ -65,7 +66,7 @@ from-room : (room : List ℕ) (o : Outcome Quantity) → 336 ≤ length room →
 from-room room (refused r) h f = rw (sent-refused room r) (heard-refusal r _)
 from-room room (given q) h (held f) =
     rw (sent-whole room (quantityBytes q) (omega (arith, quantity-form .sized q f)))
-    (heard-answer _ ∙ ap given (quantity-form .back q (drop (length (quantityBytes q)) room) f))
+    (heard-answer _ ∙ ap given (read-back q f (drop (length (quantityBytes q)) room)))
 
 -- ---- THE TRANSPORT: a theorem P on the outcome o of a call
 module _ (P : Outcome Quantity → Type 0) (o : Outcome Quantity) (h : P o) where
