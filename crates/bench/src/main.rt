@@ -9,10 +9,10 @@
 // `_` no factor, `g` gram·metre·second^-2, `G` the same of kilogram, `s` gram^(1/2)·metre^(1/2)·second^-1. `cases.py` writes the lines.
 use canonical::equality::Verdict;
 use exponents::Exponent;
+use keys::order::Sense;
 use libc::STDIN_FILENO;
 use libc::STDOUT_FILENO;
 use quantities::comparisons::Compared;
-use tables::order::Sense;
 use units::Candidate;
 use units::Candidates;
 use units::Factor;

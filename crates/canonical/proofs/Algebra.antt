@@ -12,10 +12,10 @@ use Rattle.exponents.proofs.Value.{Value}
 use Rattle.exponents.proofs.Totals.{worth, zero-add, add-swap, total, total-join, total-map, total-neg, total-times}
 use Rattle.units.specs.declared.Factor.{Factor}
 use Rattle.units.specs.Lists.{withExponent, inverted, raised}
-use Rattle.tables.proofs.Each.{each-holds, along-total}
+use Rattle.exponents.proofs.Each.{each-holds, along-total}
 use Rattle.tables.proofs.Total.{Total}
-use Rattle.canonical.specs.Order.{Atom, atom, of}
-use Rattle.canonical.specs.Canonical.{place, insert, gather, unless, nonzero, canon}
+use Rattle.tables.specs.Order.{Atom, atom, of}
+use Rattle.canonical.specs.Canonical.{place, insert, gather, dropIf, nonzero, canon}
 
 module _ (W : Value) where
   -- what a factor adds to the base exponent at b
@@ -57,15 +57,15 @@ module _ (W : Value) where
   exact-power e l b = holds-imp (each-holds (raised e) (raised-term e b) l) λ p s. along-total W _ (term b) s ∙ total-times W e (term b) l
 
   -- a zero exponent adds nothing
-  unless-exact : (f : Factor) (l : List Factor) (b : ℕ → Exponent) (t : Bool) → same (f .exponent) nought ≡ t → exact (unless t f l) b ≡ exact (f ∷ l) b
-  unfolding unless
-  unless-exact f l b true e = sym (cons f l b ∙ simp (W .same-is _ _ e, W .nil-act, zero-add W))
-  unless-exact f l b false e = refl
+  drop-exact : (f : Factor) (l : List Factor) (b : ℕ → Exponent) (t : Bool) → same (f .exponent) nought ≡ t → exact (dropIf t f l) b ≡ exact (f ∷ l) b
+  unfolding dropIf
+  drop-exact f l b true e = sym (cons f l b ∙ simp (W .same-is _ _ e, W .nil-act, zero-add W))
+  drop-exact f l b false e = refl
 
   pub nonzero-exact : (l : List Factor) (b : ℕ → Exponent) → exact (nonzero l) b ≡ exact l b
   unfolding nonzero
   nonzero-exact [] b = refl
-  nonzero-exact (f ∷ l) b = unless-exact f (nonzero l) b _ refl ∙ simp (cons, nonzero-exact l b)
+  nonzero-exact (f ∷ l) b = drop-exact f (nonzero l) b _ refl ∙ simp (cons, nonzero-exact l b)
 
   module _ (cmp : Atom → Atom → Ordering) (O : Total cmp) where
     -- one factor put in: its term is added

@@ -10,7 +10,7 @@ use Rattle.exponents.proofs.Value.{Value}
 use Rattle.exponents.proofs.Totals.{worth, total}
 use Rattle.units.specs.declared.Factor.{Factor}
 use Rattle.tables.specs.Lists.{baseAt, base}
-use Rattle.tables.proofs.Each.{Along, done, next, each-holds}
+use Rattle.exponents.proofs.Each.{Along, done, next, each-holds}
 use Rattle.canonical.specs.Canonical.{sameAll, allNought}
 use Rattle.canonical.proofs.Algebra.{exact}
 use Rattle.canonical.proofs.Sums.{has-worth, has-low}

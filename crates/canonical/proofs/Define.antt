@@ -17,7 +17,7 @@ use Rattle.units.specs.declared.Row.{Row}
 use Rattle.units.specs.Lists.{raised}
 use Rattle.tables.specs.Rows.{Facts, expAt, places, bases, defOf, admitted, admitFrom}
 use Rattle.tables.specs.declared.Slot.{Slot}
-use Rattle.tables.proofs.Each.{Along, done, next}
+use Rattle.exponents.proofs.Each.{Along, done, next}
 use Rattle.tables.proofs.Filled.{derived-exps}
 use Rattle.canonical.proofs.Algebra.{exact, cons, exact-join, exact-power}
 use Rattle.canonical.proofs.Bases.{Agree, base-exact}

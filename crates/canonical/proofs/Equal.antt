@@ -7,8 +7,9 @@ use lib.ListN.{length}
 use Rattle.exponents.proofs.Equality.{same-is, same-not}
 use Rattle.units.specs.declared.Factor.{Factor}
 use Rattle.tables.proofs.Total.{Total, swap}
-use Rattle.canonical.specs.Order.{Atom, atom}
-use Rattle.canonical.specs.Canonical.{isEq, sameList}
+use Rattle.tables.specs.Order.{Atom, atom}
+use Rattle.keys.specs.Orders.{isEq}
+use Rattle.canonical.specs.Canonical.{sameList}
 use Rattle.canonical.proofs.Decides.{Decides, decides-imp, always, never, and-decides}
 
 pub isEq-decides : (o : Ordering) → Decides (o ≡ Ordering·eq) (isEq o)

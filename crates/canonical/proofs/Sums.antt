@@ -12,7 +12,7 @@ use Rattle.units.specs.declared.Factor.{Factor}
 use Rattle.units.specs.Lists.{inverted, raised}
 use Rattle.tables.specs.Lists.{baseAt}
 use Rattle.tables.proofs.Total.{Total}
-use Rattle.canonical.specs.Order.{Atom}
+use Rattle.tables.specs.Order.{Atom}
 use Rattle.canonical.specs.Canonical.{canon}
 use Rattle.canonical.proofs.Algebra.{term, exact, exact-join, exact-inverse, exact-over, exact-power, exact-canon, exact-equal}
 

@@ -1,5 +1,3 @@
-pub mod Order
 pub mod Canonical
-pub mod Form
-pub mod Terms
 pub mod Equality
+pub mod Held

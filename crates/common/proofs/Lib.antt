@@ -2,3 +2,5 @@ pub mod Shaped
 pub mod Merging
 pub mod Sharing
 pub mod Lessening
+pub mod Agreeing
+pub mod Resolved

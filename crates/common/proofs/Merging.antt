@@ -5,52 +5,23 @@ use mathlib.Core.List.{List, [], _∷_, _++_, map}
 use mathlib.Core.Logic.{_⊎_, inl, inr}
 use Prim.Native.Nat.{ℕ, Ordering, Ordering·lt, Ordering·eq, Ordering·gt}
 use native.Mathlib.Omega.{arith}
-use Rattle.exponents.specs.Outcome.{Outcome, given, refused, bind}
-use Rattle.exponents.specs.Outcome as outcome
+use Rattle.exponents.specs.Outcome.{Outcome, given, refused, bind, apply}
 use Rattle.exponents.specs.Fractions.{nought, add?, same}
+use Rattle.exponents.proofs.Following.{apply-same, bind-same, apply-apply, bind-apply, apply-bind, bind-bind}
 use Rattle.exponents.proofs.Holds.{take-out, bind-given}
 use Rattle.units.specs.declared.Factor.{Factor}
 use Rattle.units.specs.Lists.{withExponent, inverted}
-use Rattle.tables.proofs.Places.{All}
+use Rattle.exponents.specs.Words.{All}
 use Rattle.tables.proofs.Total.{swap}
-use Rattle.canonical.specs.Order.{Atom, atom, of}
-use Rattle.canonical.specs.Canonical.{place, insert, gather, unless, nonzero, canon}
+use Rattle.tables.specs.Order.{Atom, atom, of}
+use Rattle.canonical.specs.Canonical.{place, insert, gather, dropIf, nonzero, canon}
 use Rattle.canonical.proofs.Sorted.{Above, Rising, above-trans, gather-rising, nonzero-above, canon-canonical}
 use Rattle.canonical.proofs.Total.{Weak}
 use Rattle.common.specs.declared.Shared.{Shared}
 use Rattle.common.specs.declared.Shared.the-variants.{Takes, Nothing}
 use Rattle.common.specs.Common.{meet, ifSame, withShared, sharedWith, common, over}
-use Rattle.common.specs.Lessened.{taken, lessen}
+use Rattle.common.specs.Held.{taken, lessen}
 use Rattle.common.proofs.Lessening.{lessen-none}
-
--- ---- outcomes mapped and bound
-map-id : {A : Type 0} (o : Outcome A) → outcome.map (λ a. a) o ≡ o
-map-id (given a) = refl
-map-id (refused r) = refl
-
-map-map : {A B C : Type 0} (g : B → C) (f : A → B) (o : Outcome A) → outcome.map g (outcome.map f o) ≡ outcome.map (λ a. g (f a)) o
-map-map g f (given a) = refl
-map-map g f (refused r) = refl
-
-bind-map : {A B C : Type 0} (o : Outcome A) (f : A → B) (g : B → Outcome C) → bind (outcome.map f o) g ≡ bind o (λ a. g (f a))
-unfolding bind
-bind-map (given a) f g = refl
-bind-map (refused r) f g = refl
-
-map-bind : {A B C : Type 0} (o : Outcome A) (f : A → Outcome B) (g : B → C) → outcome.map g (bind o f) ≡ bind o (λ a. outcome.map g (f a))
-unfolding bind
-map-bind (given a) f g = refl
-map-bind (refused r) f g = refl
-
-bind-bind : {A B C : Type 0} (o : Outcome A) (f : A → Outcome B) (g : B → Outcome C) → bind (bind o f) g ≡ bind o (λ a. bind (f a) g)
-unfolding bind
-bind-bind (given a) f g = refl
-bind-bind (refused r) f g = refl
-
-bind-same : {A B : Type 0} (o : Outcome A) (f g : A → Outcome B) → ((a : A) → f a ≡ g a) → bind o f ≡ bind o g
-unfolding bind
-bind-same (given a) f g h = h a
-bind-same (refused r) f g h = refl
 
 lt-not-eq : {o : Ordering} → o ≡ Ordering·lt → o ≡ Ordering·eq → ⊥
 lt-not-eq p q = let z : _≡_ {A = ℕ} 0 1 = cc in omega arith
@@ -80,8 +51,8 @@ module _ (cmp : Atom → Atom → Ordering) (O : Weak cmp) where
   above-like j k (f ∷ l) e a = (sym (O .like j k (atom f) e) ∙ a .0, above-like j k l e (a .1))
 
   -- what comes behind y isn't y
-  found-behind : (t : Bool) (y : Factor) (l : List Factor) (k : Atom) → cmp (atom y) k ≡ Ordering·lt → Found k (unless t y l) → Found k l
-  unfolding unless
+  found-behind : (t : Bool) (y : Factor) (l : List Factor) (k : Atom) → cmp (atom y) k ≡ Ordering·lt → Found k (dropIf t y l) → Found k l
+  unfolding dropIf
   found-behind true y l k p h = h
   found-behind false y l k p (inl e) = absurd (gt-not-eq (O .swaps (atom y) k ∙ ap swap p) e)
   found-behind false y l k p (inr h) = h
@@ -90,61 +61,61 @@ module _ (cmp : Atom → Atom → Ordering) (O : Weak cmp) where
   found-below : (j k : Atom) (l : List Factor) → Above cmp j l → cmp k j ≡ Ordering·lt → Found k l → ⊥
   found-below j k l a p h = lt-not-gt p (O .swaps j k ∙ ap swap (above-found j k l a h))
 
-  found-before : (t : Bool) (y : Factor) (l : List Factor) (k : Atom) → Above cmp (atom y) l → cmp k (atom y) ≡ Ordering·lt → Found k (unless t y l) → ⊥
-  unfolding unless
+  found-before : (t : Bool) (y : Factor) (l : List Factor) (k : Atom) → Above cmp (atom y) l → cmp k (atom y) ≡ Ordering·lt → Found k (dropIf t y l) → ⊥
+  unfolding dropIf
   found-before true y l k a p h = found-below (atom y) k l a p h
   found-before false y l k a p (inl e) = lt-not-eq p e
   found-before false y l k a p (inr h) = found-below (atom y) k l a p h
 
-  all-behind : (t : Bool) (y : Factor) (l xs : List Factor) → Above cmp (atom y) xs → AllFound xs (unless t y l) → AllFound xs l
+  all-behind : (t : Bool) (y : Factor) (l xs : List Factor) → Above cmp (atom y) xs → AllFound xs (dropIf t y l) → AllFound xs l
   all-behind t y l [] a h = tt
   all-behind t y l (x ∷ xs) a h = (found-behind t y l (atom x) (a .0) (h .0), all-behind t y l xs (a .1) (h .1))
 
   -- ---- factors that all come behind y leave it where it is
-  gather-behind : (y : Factor) (ys xs : List Factor) → Above cmp (atom y) xs → gather cmp (y ∷ ys) xs ≡ outcome.map (λ zs. y ∷ zs) (gather cmp ys xs)
+  gather-behind : (y : Factor) (ys xs : List Factor) → Above cmp (atom y) xs → gather cmp (y ∷ ys) xs ≡ apply (λ zs. y ∷ zs) (gather cmp ys xs)
   unfolding gather insert place
   gather-behind y ys [] a = refl
   gather-behind y ys (x ∷ xs) a =
       ap (λ o. bind (place o x y ys (insert cmp x ys)) (λ b. gather cmp b xs)) (O .swaps (atom y) (atom x) ∙ ap swap (a .0))
-      ∙ bind-map (insert cmp x ys) (λ zs. y ∷ zs) (λ b. gather cmp b xs)
-      ∙ bind-same (insert cmp x ys) (λ zs. gather cmp (y ∷ zs) xs) (λ zs. outcome.map (λ ws. y ∷ ws) (gather cmp zs xs)) (λ zs. gather-behind y zs xs (a .1))
-      ∙ sym (map-bind (insert cmp x ys) (λ b. gather cmp b xs) (λ ws. y ∷ ws))
+      ∙ bind-apply (insert cmp x ys) (λ zs. y ∷ zs) (λ b. gather cmp b xs)
+      ∙ bind-same (insert cmp x ys) (λ zs. gather cmp (y ∷ zs) xs) (λ zs. apply (λ ws. y ∷ ws) (gather cmp zs xs)) (λ zs. gather-behind y zs xs (a .1))
+      ∙ sym (apply-bind (insert cmp x ys) (λ b. gather cmp b xs) (λ ws. y ∷ ws))
 
   -- zeros gone after that
   nonzero-behind : (y : Factor) (ys xs : List Factor) → Above cmp (atom y) xs →
-      outcome.map nonzero (gather cmp (y ∷ ys) xs) ≡ outcome.map (unless (same (y .exponent) nought) y) (outcome.map nonzero (gather cmp ys xs))
+      apply nonzero (gather cmp (y ∷ ys) xs) ≡ apply (dropIf (same (y .exponent) nought) y) (apply nonzero (gather cmp ys xs))
   unfolding nonzero
   nonzero-behind y ys xs a =
-      ap (outcome.map nonzero) (gather-behind y ys xs a)
-      ∙ map-map nonzero (λ zs. y ∷ zs) (gather cmp ys xs)
-      ∙ sym (map-map (unless (same (y .exponent) nought) y) nonzero (gather cmp ys xs))
+      ap (apply nonzero) (gather-behind y ys xs a)
+      ∙ apply-apply (λ zs. y ∷ zs) nonzero (gather cmp ys xs)
+      ∙ sym (apply-apply nonzero (dropIf (same (y .exponent) nought) y) (gather cmp ys xs))
 
   -- ---- x behind y: y stays
   lessen-behind : (t : Bool) (y : Factor) (l : List Factor) (x : Factor) (xs : List Factor) → cmp (atom x) (atom y) ≡ Ordering·gt →
-      outcome.map (unless t y) (lessen cmp l (x ∷ xs)) ≡ lessen cmp (unless t y l) (x ∷ xs)
-  unfolding unless lessen taken
-  lessen-behind true y l x xs e = map-id (lessen cmp l (x ∷ xs))
-  lessen-behind false y l x xs e = sym (ap (λ o. taken o y x (λ e. outcome.map (unless (same e nought) (of (atom y) e)) (lessen cmp l xs)) (lessen cmp l (x ∷ xs))) e)
+      apply (dropIf t y) (lessen cmp l (x ∷ xs)) ≡ lessen cmp (dropIf t y l) (x ∷ xs)
+  unfolding dropIf lessen taken
+  lessen-behind true y l x xs e = apply-same (lessen cmp l (x ∷ xs))
+  lessen-behind false y l x xs e = sym (ap (λ o. taken o y x (λ e. apply (dropIf (same e nought) (of (atom y) e)) (lessen cmp l xs)) (lessen cmp l (x ∷ xs))) e)
 
   -- what is claimed of a walk
   abbrev Merges : List Factor → List Factor → Type 0
-  Merges a xs = outcome.map nonzero (gather cmp a xs) ≡ lessen cmp (nonzero a) xs
+  Merges a xs = apply nonzero (gather cmp a xs) ≡ lessen cmp (nonzero a) xs
 
   module _ (y : Factor) (ys : List Factor) (x : Factor) (xs : List Factor) (r : Rising cmp (y ∷ ys)) (s : Rising cmp (x ∷ xs)) where
     -- x merged with y, which is no zero
-    merge-on : cmp (atom x) (atom y) ≡ Ordering·eq → (t : Bool) → AllFound (x ∷ xs) (unless t y (nonzero ys)) → (AllFound xs (nonzero ys) → Merges ys xs) →
-        outcome.map nonzero (gather cmp (y ∷ ys) (x ∷ xs)) ≡ lessen cmp (unless t y (nonzero ys)) (x ∷ xs)
-    unfolding unless gather insert place lessen taken
+    merge-on : cmp (atom x) (atom y) ≡ Ordering·eq → (t : Bool) → AllFound (x ∷ xs) (dropIf t y (nonzero ys)) → (AllFound xs (nonzero ys) → Merges ys xs) →
+        apply nonzero (gather cmp (y ∷ ys) (x ∷ xs)) ≡ lessen cmp (dropIf t y (nonzero ys)) (x ∷ xs)
+    unfolding dropIf gather insert place lessen taken
     merge-on e true h go = absurd (lt-not-eq (above-found (atom y) (atom x) (nonzero ys) (nonzero-above cmp O (atom y) ys (r .0)) (h .0)) (O .swaps (atom x) (atom y) ∙ ap swap e))
     merge-on e false h go =
         let a : Above cmp (atom y) xs = above-like (atom x) (atom y) xs e (s .0) in
         let k = go (all-behind false y (nonzero ys) xs a (h .1)) in
-        ap (λ o. outcome.map nonzero (bind (place o x y ys (insert cmp x ys)) (λ b. gather cmp b xs))) e
-        ∙ ap (outcome.map nonzero) (bind-map (add? (y .exponent) (x .exponent)) (λ v. of (atom y) v ∷ ys) (λ b. gather cmp b xs))
-        ∙ map-bind (add? (y .exponent) (x .exponent)) (λ v. gather cmp (of (atom y) v ∷ ys) xs) nonzero
-        ∙ bind-same (add? (y .exponent) (x .exponent)) (λ v. outcome.map nonzero (gather cmp (of (atom y) v ∷ ys) xs)) (λ v. outcome.map (unless (same v nought) (of (atom y) v)) (lessen cmp (nonzero ys) xs))
-        (λ v. nonzero-behind (of (atom y) v) ys xs a ∙ ap (outcome.map (unless (same v nought) (of (atom y) v))) k)
-        ∙ sym (ap (λ o. taken o y x (λ v. outcome.map (unless (same v nought) (of (atom y) v)) (lessen cmp (nonzero ys) xs)) (lessen cmp (nonzero ys) (x ∷ xs))) e)
+        ap (λ o. apply nonzero (bind (place o x y ys (insert cmp x ys)) (λ b. gather cmp b xs))) e
+        ∙ ap (apply nonzero) (bind-apply (add? (y .exponent) (x .exponent)) (λ v. of (atom y) v ∷ ys) (λ b. gather cmp b xs))
+        ∙ apply-bind (add? (y .exponent) (x .exponent)) (λ v. gather cmp (of (atom y) v ∷ ys) xs) nonzero
+        ∙ bind-same (add? (y .exponent) (x .exponent)) (λ v. apply nonzero (gather cmp (of (atom y) v ∷ ys) xs)) (λ v. apply (dropIf (same v nought) (of (atom y) v)) (lessen cmp (nonzero ys) xs))
+        (λ v. nonzero-behind (of (atom y) v) ys xs a ∙ ap (apply (dropIf (same v nought) (of (atom y) v))) k)
+        ∙ sym (ap (λ o. taken o y x (λ v. apply (dropIf (same v nought) (of (atom y) v)) (lessen cmp (nonzero ys) xs)) (lessen cmp (nonzero ys) (x ∷ xs))) e)
 
     turn : (o : Ordering) → cmp (atom x) (atom y) ≡ o → AllFound (x ∷ xs) (nonzero (y ∷ ys)) → (AllFound xs (nonzero ys) → Merges ys xs) → (AllFound (x ∷ xs) (nonzero ys) → Merges ys (x ∷ xs)) → Merges (y ∷ ys) (x ∷ xs)
     unfolding nonzero
@@ -154,7 +125,7 @@ module _ (cmp : Atom → Atom → Ordering) (O : Weak cmp) where
         let b : cmp (atom y) (atom x) ≡ Ordering·lt = O .swaps (atom x) (atom y) ∙ ap swap e in
         let a : Above cmp (atom y) (x ∷ xs) = (b, above-trans cmp O (atom y) (atom x) xs b (s .0)) in
         nonzero-behind y ys (x ∷ xs) a
-        ∙ ap (outcome.map (unless (same (y .exponent) nought) y)) (past (all-behind (same (y .exponent) nought) y (nonzero ys) (x ∷ xs) a h))
+        ∙ ap (apply (dropIf (same (y .exponent) nought) y)) (past (all-behind (same (y .exponent) nought) y (nonzero ys) (x ∷ xs) a h))
         ∙ lessen-behind (same (y .exponent) nought) y (nonzero ys) x xs e
 
   merges : (a xs : List Factor) → Rising cmp a → Rising cmp xs → AllFound xs (nonzero a) → Merges a xs
@@ -228,11 +199,11 @@ module _ (cmp : Atom → Atom → Ordering) (O : Weak cmp) where
       ∙ sym (bind-bind (insert cmp x a) (λ b. gather cmp b l) (λ b. gather cmp b m))
 
   -- a list whose canonical form is c, and factors that rise and are found in that
-  canon-join : (o : Outcome (List Factor)) (m c xs : List Factor) → gather cmp [] m ≡ o → outcome.map nonzero o ≡ given c → Rising cmp xs → AllFound xs c → canon cmp (m ++ xs) ≡ lessen cmp c xs
+  canon-join : (o : Outcome (List Factor)) (m c xs : List Factor) → gather cmp [] m ≡ o → apply nonzero o ≡ given c → Rising cmp xs → AllFound xs c → canon cmp (m ++ xs) ≡ lessen cmp c xs
   unfolding canon
   canon-join (given a) m c xs g e r h =
       let n : nonzero a ≡ c = cc in
-      ap (outcome.map nonzero) (gather-join [] m xs ∙ bind-given _ g)
+      ap (apply nonzero) (gather-join [] m xs ∙ bind-given _ g)
       ∙ merges a xs (take-out (gather-rising cmp O [] m tt) g) r (subst (λ (c : List Factor). AllFound xs c) (sym n) h)
       ∙ ap (λ c. lessen cmp c xs) n
   canon-join (refused w) m c xs g e r h = absurd (let z : _≡_ {A = ℕ} 0 1 = cc in omega arith)

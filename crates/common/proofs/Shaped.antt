@@ -1,12 +1,12 @@
--- What is made of lists whose factors keep their rule keeps it: canonical forms, common factors, what is left over those; and none is longer than its list.
+-- What is made of lists whose factors keep their rule keeps it: common factors, what is left over those; and none is longer than its list.
 use mathlib.Core.Path.{_≡_, subst}
-use mathlib.Core.Bool.{Bool, true, false, _&&_}
-use mathlib.Core.List.{List, [], _∷_, _++_, map}
+use mathlib.Core.Bool.{false, _&&_}
+use mathlib.Core.List.{List, [], _∷_, map}
 use Prim.Native.Nat.{ℕ, suc, _≤_, Ordering, Ordering·lt, Ordering·eq, Ordering·gt}
 use native.Mathlib.Omega.{arith}
 use lib.ListN.{length}
 use Rattle.exponents.specs.Outcome.{Outcome}
-use Rattle.exponents.specs.Fractions.{nought, neg, less, faulty, same, add?}
+use Rattle.exponents.specs.Fractions.{nought, neg, less, faulty, same}
 use Rattle.exponents.specs.declared.Exponent.{Exponent}
 use Rattle.exponents.proofs.Holds.{Holds, held, holds-imp, holds-map, holds-bind}
 use Rattle.exponents.proofs.Exact.{neg-low}
@@ -15,14 +15,14 @@ use Rattle.exponents.proofs.Sound.{add-sound}
 use Rattle.units.specs.declared.Factor.{Factor}
 use Rattle.units.specs.Lists.{some, factorFault, withExponent, inverted}
 use Rattle.units.proofs.Sound.{exponent-sound}
-use Rattle.tables.proofs.Places.{All}
-use Rattle.canonical.specs.Order.{Atom, atom, of}
-use Rattle.canonical.specs.Canonical.{unless, canon}
-use Rattle.canonical.proofs.Keeping.{pick-is, all-append, each-faultless, none-faulty, Kept, kept-with, unless-keeps, canon-keeps}
+use Rattle.exponents.specs.Words.{All}
+use Rattle.tables.specs.Order.{Atom, atom, of}
+use Rattle.exponents.proofs.Words.{pick-is}
+use Rattle.canonical.proofs.Keeping.{each-faultless, none-faulty, Kept, kept-with, unless-keeps, unless-short}
 use Rattle.common.specs.declared.Shared.{Shared}
 use Rattle.common.specs.declared.Shared.the-variants.{Takes, Nothing}
 use Rattle.common.specs.Common.{meet, ifSame, withShared, sharedWith, common}
-use Rattle.common.specs.Lessened.{taken, lessen}
+use Rattle.common.specs.Held.{taken, lessen}
 
 -- ---- what two factors share is one of their exponents
 abbrev Fine : Shared → Type 0
@@ -63,20 +63,8 @@ inverted-all (f ∷ l) h = (inverted-keeps f (h .0), inverted-all l (h .1))
 pub inverted-kept : (l : List Factor) → some factorFault l ≡ false → some factorFault (map inverted l) ≡ false
 inverted-kept l h = none-faulty factorFault (map inverted l) (inverted-all l (each-faultless factorFault l h))
 
--- ---- lists joined
-pub join-kept : (l m : List Factor) → some factorFault l ≡ false → some factorFault m ≡ false → some factorFault (l ++ m) ≡ false
-join-kept l m h k = none-faulty factorFault (l ++ m) (all-append Kept l m (each-faultless factorFault l h) (each-faultless factorFault m k))
-
--- ---- merged
-merged-kept : (x y : Factor) → Kept x → Kept y → Holds (λ e. Kept (of (atom y) e)) (add? (y .exponent) (x .exponent))
-merged-kept x y p q = holds-imp (add-sound (y .exponent) (x .exponent)) λ e s. kept-with y e q s
-
 -- `cmp` is the order of factors
 module _ (cmp : Atom → Atom → Ordering) where
-  -- ---- canonical forms
-  pub canon-kept : (l : List Factor) → some factorFault l ≡ false → Holds (λ c. some factorFault c ≡ false) (canon cmp l)
-  canon-kept l h = holds-imp (canon-keeps Kept merged-kept cmp l (each-faultless factorFault l h)) (none-faulty factorFault)
-
   -- ---- common factors
   shared-fine : (f : Factor) (m : List Factor) → faulty (f .exponent) ≡ false → All Kept m → Fine (sharedWith cmp f m)
   unfolding sharedWith
@@ -107,22 +95,19 @@ module _ (cmp : Atom → Atom → Ordering) where
   taken-holds P Ordering·eq g c merged rest h k = holds-bind _ (add-sound (g .exponent) (c .exponent)) h
   taken-holds P Ordering·gt g c merged rest h k = holds-map _ k λ r p. p
 
-  lessen-all : (l cs : List Factor) → All Kept l → Holds (All Kept) (lessen cmp l cs)
-  unfolding lessen
-  lessen-all [] cs h = held {a = []} tt
-  lessen-all (g ∷ m) [] h = held {a = g ∷ m} h
-  lessen-all (g ∷ m) (c ∷ cs) h =
-      taken-holds (All Kept) _ g c _ _
-      (λ e s. holds-map _ (lessen-all m cs (h .1)) λ r k. unless-keeps Kept (same e nought) (of (atom g) e) r (kept-with g e (h .0) s) k)
-      (holds-imp (lessen-all m (c ∷ cs) (h .1)) λ r k. (h .0, k))
+  -- P stays with another exponent
+  module _ (P : Factor → Type 0) (any : (f : Factor) (e : Exponent) → P f → faulty e ≡ false → P (of (atom f) e)) where
+    pub lessen-keeps : (l cs : List Factor) → All P l → Holds (All P) (lessen cmp l cs)
+    unfolding lessen
+    lessen-keeps [] cs h = held {a = []} tt
+    lessen-keeps (g ∷ m) [] h = held {a = g ∷ m} h
+    lessen-keeps (g ∷ m) (c ∷ cs) h =
+        taken-holds (All P) _ g c _ _
+        (λ e s. holds-map _ (lessen-keeps m cs (h .1)) λ r k. unless-keeps P (same e nought) (of (atom g) e) r (any g e (h .0) s) k)
+        (holds-imp (lessen-keeps m (c ∷ cs) (h .1)) λ r k. (h .0, k))
 
   pub lessen-kept : (l cs : List Factor) → some factorFault l ≡ false → Holds (λ r. some factorFault r ≡ false) (lessen cmp l cs)
-  lessen-kept l cs h = holds-imp (lessen-all l cs (each-faultless factorFault l h)) (none-faulty factorFault)
-
-  unless-short : (t : Bool) (f : Factor) (l : List Factor) (n : ℕ) → length l ≤ n → length (unless t f l) ≤ suc n
-  unfolding unless
-  unless-short true f l n h = omega arith
-  unless-short false f l n h = omega arith
+  lessen-kept l cs h = holds-imp (lessen-keeps Kept kept-with l cs (each-faultless factorFault l h)) (none-faulty factorFault)
 
   pub lessen-short : (l cs : List Factor) → Holds (λ r. length r ≤ length l) (lessen cmp l cs)
   unfolding lessen

@@ -4,20 +4,21 @@ use mathlib.Core.Bool.{Bool, true, false, _&&_}
 use mathlib.Core.List.{List, [], _∷_, _++_, map, map-append, append-assoc, append-nil}
 use Prim.Native.Nat.{ℕ, _+_, _-_, _≤_, _<_, Ordering, Ordering·lt, Ordering·eq, Ordering·gt}
 use lib.ListN.{length, drop, getD, set, replicate, length-append, length-map, drop-of-length-le}
-use Rattle.exponents.specs.Fractions.{nought, less, faulty, neg?, fractionOf}
+use Rattle.exponents.specs.Fractions.{nought, less, faulty}
+use Rattle.exponents.specs.Held.{neg?, fractionOf}
 use Rattle.exponents.specs.declared.Exponent.{Exponent}
 use Rattle.exponents.specs.declared.Fraction.the-variants.{Exact}
 use Rattle.exponents.proofs.Numbers.{negated-is}
 use Rattle.units.specs.declared.Factor.{Factor}
 use Rattle.units.specs.Lists.{noFactor, some, factorFault, withExponent, inverted}
 use Rattle.units.proofs.Laws.{stored}
-use Rattle.tables.specs.Rows.{pick}
-use Rattle.tables.specs.Items.{View, itemOf, noItem, packItems, packed}
+use Rattle.exponents.specs.Words.{pick}
+use Rattle.tables.specs.Held.{View, itemOf, noItem, packItems, packed, byPlace}
 use Rattle.tables.specs.declared.Item.{Item}
 use Rattle.tables.specs.declared.Items.{Items}
-use Rattle.tables.proofs.Places.{rest}
-use Rattle.canonical.specs.Order.{atom, of, byPlace}
-use Rattle.canonical.specs.Terms.{spots, withFactor}
+use Rattle.exponents.proofs.Places.{rest}
+use Rattle.tables.specs.Order.{atom, of}
+use Rattle.canonical.specs.Held.{spots, withFactor}
 use Rattle.reduction.proofs.Resolved.{item-at, sound-at}
 use Rattle.common.specs.declared.Shared.{Shared}
 use Rattle.common.specs.declared.Shared.the-variants.{Takes, Nothing}

@@ -2,12 +2,12 @@
 use mathlib.Core.Bool.{_&&_}
 use mathlib.Core.List.{List, [], _∷_, _++_, map}
 use Prim.Native.Nat.{Ordering, Ordering·lt, Ordering·eq, Ordering·gt}
+use Rattle.exponents.specs.Words.{pick}
 use Rattle.exponents.specs.Fractions.{nought, less}
 use Rattle.exponents.specs.declared.Exponent.{Exponent}
 use Rattle.units.specs.declared.Factor.{Factor}
 use Rattle.units.specs.Lists.{inverted}
-use Rattle.tables.specs.Rows.{pick}
-use Rattle.canonical.specs.Order.{Atom, atom, of}
+use Rattle.tables.specs.Order.{Atom, atom, of}
 use Rattle.common.specs.declared.Shared.{Shared}
 use Rattle.common.specs.declared.Shared.the-variants.{Takes, Nothing}
 

@@ -1,2 +1,2 @@
 pub mod Common
-pub mod Lessened
+pub mod Held

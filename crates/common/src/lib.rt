@@ -3,25 +3,21 @@
 ghost use mathlib.Core.Path.{_≡_};
 ghost use mathlib.Core.Bool.{false};
 ghost use mathlib.Core.List.{List, map};
-ghost use Prim.Native.Nat.{_≤_};
-ghost use lib.ListN.{length};
 ghost use Rattle.exponents.specs.Fractions.{faulty as isFaulty};
 ghost use Rattle.units.specs.declared.Factor.{Factor as Factorᵛ};
 ghost use Rattle.units.specs.Lists as lists;
-ghost use Rattle.units.specs.Lists.{some, factorFault};
-ghost use Rattle.tables.specs.Items.{View, packItems};
-ghost use Rattle.canonical.specs.Order.{atom, of, byPlace};
-ghost use Rattle.canonical.specs.Terms.{withFactor, spots};
-ghost use Rattle.canonical.specs.Form.{formOf};
+ghost use Rattle.tables.specs.Held.{View, packItems, Resolved};
+ghost use Rattle.tables.specs.Order.{atom, of};
+ghost use Rattle.canonical.specs.Held.{withFactor, spots, formOf};
 ghost use Rattle.common.specs.Common as spec;
 ghost use Rattle.common.specs.Common.{common};
-ghost use Rattle.common.specs.Lessened.{lessen, leftOf};
+ghost use Rattle.common.specs.Held.{lessen, leftOf};
 use canonical::form::Form;
 use exponents::Exponent;
 use exponents::Fraction;
+use keys::order::Sense;
 use tables::Item;
 use tables::Items;
-use tables::order::Sense;
 use units::Factor;
 
 // The exponent that two factors of one row and prefix have in common, or none.
@@ -73,7 +69,7 @@ fn inverted_to(x: Item, e: Exponent) -> Item
 
 // The common factors of two canonical lists, their exponents negated: what is joined to a list to have it over them.
 pub fn over_common(l: Items, m: Items) -> Items
-    ensures { λ r. ⌜ ((v : View) (fs gs : List Factorᵛ) → l ≡ packItems v fs → m ≡ packItems v gs → length fs ≤ 16 → length gs ≤ 16 → some factorFault fs ≡ false → some factorFault gs ≡ false → r ≡ packItems v (map lists.inverted (common (byPlace v) fs gs))) ⌝ }
+    ensures { λ r. ⌜ ((v : View) (fs gs : List Factorᵛ) → Resolved v l fs → Resolved v m gs → r ≡ packItems v (map lists.inverted (common (v .order) fs gs))) ⌝ }
 {
     let n = reduction::bases::capped(l.len);
     let u = reduction::bases::capped(m.len);
@@ -173,7 +169,7 @@ fn with_exponent(y: Item, e: Exponent) -> Item
 
 // A canonical list m joined with inverted common factors c, which stand in its order: one walk merges them.
 pub fn lessened(m: Items, c: Items) -> Form
-    ensures { λ r. ⌜ ((v : View) (gs cs : List Factorᵛ) → m ≡ packItems v gs → c ≡ packItems v cs → length gs ≤ 16 → length cs ≤ 16 → r ≡ formOf v (lessen (byPlace v) gs cs)) ⌝ }
+    ensures { λ r. ⌜ ((v : View) (gs cs : List Factorᵛ) → Resolved v m gs → Resolved v c cs → r ≡ formOf v (lessen (v .order) gs cs)) ⌝ }
 {
     let n = reduction::bases::capped(m.len);
     let u = reduction::bases::capped(c.len);

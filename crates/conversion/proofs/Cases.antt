@@ -3,14 +3,13 @@
 use mathlib.Core.Path.{_≡_}
 use mathlib.Core.Bool.{true, false}
 use mathlib.Core.List.{List}
-use Prim.Native.Nat.{ℕ, Ordering}
-use Rattle.exponents.specs.Outcome.{Refusal, UNITS, Outcome, given, refused, map, bind}
+use Prim.Native.Nat.{ℕ}
+use Rattle.exponents.specs.Outcome.{Refusal, UNITS, Outcome, given, refused, apply, bind}
 use Rattle.exponents.specs.declared.Exponent.{Exponent}
 use Rattle.exponents.proofs.Value.{Value}
 use Rattle.units.specs.declared.Factor.{Factor}
 use Rattle.tables.specs.Lists.{base}
-use Rattle.tables.specs.Scale.{Numbers, scale}
-use Rattle.canonical.specs.Order.{Atom}
+use Rattle.tables.specs.Rules.{Rules, scaleBy}
 use Rattle.canonical.specs.Canonical.{canon}
 use Rattle.canonical.proofs.Bases.{Agree}
 use Rattle.common.specs.Common.{common, over}
@@ -29,44 +28,44 @@ module _ (bs : List (ℕ → Exponent)) where
     at-over : {x : List Exponent} → base bs own ≡ given x → target ≡ refused r → Stops own target r
     at-target-base : {x : List Exponent} {t : List Factor} → base bs own ≡ given x → target ≡ given t → base bs t ≡ refused r → Stops own target r
 
--- ---- the cases
-module _ (cmp : Atom → Atom → Ordering) (bs : List (ℕ → Exponent)) (W : Value) {R : Type 0} (N : Numbers R) (size : Factor → R) where
+-- ---- the cases, by the rules R
+module _ {A : Type 0} (R : Rules A) (W : Value) where
   -- both lists have a canonical form, these differ, and the value is nonzero
-  pub record Unlike (l m : List Factor) (v : R) (cl cm : List Factor) : Type 0 where
-    pub own : canon cmp l ≡ given cl
-    pub target : canon cmp m ≡ given cm
-    pub nonzero : N .isZero v ≡ false
+  pub record Unlike (l m : List Factor) (v : A) (cl cm : List Factor) : Type 0 where
+    pub own : canon (R .order) l ≡ given cl
+    pub target : canon (R .order) m ≡ given cm
+    pub nonzero : R .numbers .isZero v ≡ false
     pub differ : cl ≡ cm → ⊥
 
   -- and the three steps after that answer: the own list over the common factors is not merged, the target over them is canonical
-  pub record Reduced (l m : List Factor) (v : R) (cl cm : List Factor) (x : List Exponent) (t : List Factor) (y : List Exponent) : Type 0 where
+  pub record Reduced (l m : List Factor) (v : A) (cl cm : List Factor) (x : List Exponent) (t : List Factor) (y : List Exponent) : Type 0 where
     pub lists : Unlike l m v cl cm
-    pub steps : Passed bs (over l (common cmp cl cm)) (canon cmp (over m (common cmp cl cm))) x t y
+    pub steps : Passed (R .bases) (over l (common (R .order) cl cm)) (canon (R .order) (over m (common (R .order) cl cm))) x t y
 
   -- r is the refusal of the first of the five steps that refuses
-  pub data Stopped (l m : List Factor) (v : R) (r : Refusal) : Type 0 where
-    at-own : canon cmp l ≡ refused r → Stopped l m v r
-    at-target : {cl : List Factor} → canon cmp l ≡ given cl → canon cmp m ≡ refused r → Stopped l m v r
-    at-reduced : {cl cm : List Factor} → Unlike l m v cl cm → Stops bs (over l (common cmp cl cm)) (canon cmp (over m (common cmp cl cm))) r → Stopped l m v r
+  pub data Stopped (l m : List Factor) (v : A) (r : Refusal) : Type 0 where
+    at-own : canon (R .order) l ≡ refused r → Stopped l m v r
+    at-target : {cl : List Factor} → canon (R .order) l ≡ given cl → canon (R .order) m ≡ refused r → Stopped l m v r
+    at-reduced : {cl cm : List Factor} → Unlike l m v cl cm → Stops (R .bases) (over l (common (R .order) cl cm)) (canon (R .order) (over m (common (R .order) cl cm))) r → Stopped l m v r
 
-  pub data Case (l m : List Factor) (v : R) : Type 0 where
+  pub data Case (l m : List Factor) (v : A) : Type 0 where
     -- a zero, or equal lists
-    zero : {cl cm : List Factor} → canon cmp l ≡ given cl → canon cmp m ≡ given cm → N .isZero v ≡ true → Case l m v
-    equal : {c : List Factor} → canon cmp l ≡ given c → canon cmp m ≡ given c → Case l m v
+    zero : {cl cm : List Factor} → canon (R .order) l ≡ given cl → canon (R .order) m ≡ given cm → R .numbers .isZero v ≡ true → Case l m v
+    equal : {c : List Factor} → canon (R .order) l ≡ given c → canon (R .order) m ≡ given c → Case l m v
     -- else a ranged step refuses
     stopped : {r : Refusal} → Stopped l m v r → Case l m v
     -- else the base exponents of l and m differ, or agree
-    units : {cl cm t : List Factor} {x y : List Exponent} → Reduced l m v cl cm x t y → (Agree W bs l m → ⊥) → Case l m v
-    value : {cl cm t : List Factor} {x y : List Exponent} → Reduced l m v cl cm x t y → Agree W bs l m → Case l m v
+    units : {cl cm t : List Factor} {x y : List Exponent} → Reduced l m v cl cm x t y → (Agree W (R .bases) l m → ⊥) → Case l m v
+    value : {cl cm t : List Factor} {x y : List Exponent} → Reduced l m v cl cm x t y → Agree W (R .bases) l m → Case l m v
 
   -- the value times own scale, divided by target scale; a scale's refusal is the conversion's, the own one first
-  abbrev pub answer : {l m : List Factor} {v : R} → Case l m v → Outcome R
+  abbrev pub answer : {l m : List Factor} {v : A} → Case l m v → Outcome A
   answer {v} (zero el em z) = given v
   answer {v} (equal el em) = given v
   answer (stopped {r} s) = refused r
   answer (units s n) = refused UNITS
-  answer {l} {v} (value {cl} {cm} {t} s a) = bind (scale N size (over l (common cmp cl cm))) (λ s. map (λ u. N .divide (N .times v s) u) (scale N size t))
+  answer {l} {v} (value {cl} {cm} {t} s a) = bind (scaleBy R (over l (common (R .order) cl cm))) (λ s. apply (λ u. R .numbers .divide (R .numbers .times v s) u) (scaleBy R t))
 
   -- a conversion that is right in every case
-  abbrev pub Faithful : (List Factor → List Factor → R → Outcome R) → Type 0
-  Faithful f = (l m : List Factor) (v : R) (k : Case l m v) → f l m v ≡ answer k
+  abbrev pub Faithful : (List Factor → List Factor → A → Outcome A) → Type 0
+  Faithful f = (l m : List Factor) (v : A) (k : Case l m v) → f l m v ≡ answer k

@@ -7,10 +7,9 @@ use native.Mathlib.Omega.{arith}
 use lib.IntN.{ℤ, pos}
 use lib.Ieee.{Float, toBits, ofBits, mul, div, eq}
 use lib.Ieee as ieee
-use lib.ListN.{length}
 use Rattle.exponents.specs.Outcome.{UNITS, Outcome, given, refused, bind, each}
 use Rattle.exponents.specs.Outcome as outcome
-use Rattle.exponents.specs.Fractions.{worked}
+use Rattle.exponents.specs.Held.{worked}
 use Rattle.exponents.proofs.Rationals as rational
 use Rattle.floats.specs.Power.{one, bitsOf, raise, power}
 use Rattle.units.specs.declared.Prefix.the-variants.{Metric}
@@ -18,13 +17,14 @@ use Rattle.units.specs.declared.Factor.{Factor}
 use Rattle.units.specs.declared.Kind.the-variants.{Base, Derived}
 use Rattle.units.specs.declared.Rows.{Rows}
 use Rattle.units.specs.Lists.{factorFault, some, withExponent, inverted}
-use Rattle.tables.specs.Key.{multiple, whole, wholes, divisor, below, turn, shrink, reduce, key, entry, entries}
+use Rattle.keys.specs.Key.{multiple, whole, wholes, divisor, below, turn, shrink, reduce, key, entry, entries}
 use Rattle.tables.specs.Lists.{baseAt, base}
-use Rattle.tables.specs.Scale.{Numbers, binary64, raise as raisedBy, raisedTo, scaleFrom, sizeBy}
-use Rattle.tables.specs.Rows.{Facts, expAt, scaleAt, places, bases, placed, slotted, slotsFrom, slots, isBase, count, kindFault, tableFault, rowExps, rowScale, workedOut, rowFacts, admitted, admitFrom, rowsOf, admit}
-use Rattle.tables.specs.Items.{keyOrder, rowOrder}
-use Rattle.canonical.specs.Order.{orderIn}
-use Rattle.canonical.specs.Canonical.{place, insert, gather, unless, nonzero, canon, isEq, sameList, sameAll}
+use Rattle.tables.specs.Scale.{raise as raisedBy, raisedTo, scaleFrom}
+use Rattle.tables.specs.Rows.{Facts, expAt, scaleAt, places, placed, slotted, slotsFrom, isBase, count, kindFault, tableFault, rowExps, rowScale, workedOut, rowFacts, admitted, admitFrom, admit}
+use Rattle.tables.specs.Order.{keyOrder, rowOrder}
+use Rattle.tables.specs.Rules.{rulesIn}
+use Rattle.canonical.specs.Canonical.{place, insert, gather, dropIf, nonzero, canon, sameList, sameAll}
+use Rattle.keys.specs.Orders.{isEq}
 use Rattle.canonical.proofs.Total.{orderIn-total}
 use Rattle.common.specs.Common.{meet, ifSame, withShared, sharedWith, common}
 use Rattle.conversion.specs.Conversion.{judged, choose, rescaled, against, unlike, convert}
@@ -32,18 +32,18 @@ use Rattle.conversion.proofs.Refusals.{given-not-refused}
 use Rattle.conversion.proofs.Cases.{Faithful}
 use Rattle.conversion.proofs.Faithful as f
 
--- any table: the facts of its rows, its number of base rows, the size of a factor
-module _ (ks : List Facts) (n : ℕ) {R : Type 0} (N : Numbers R) (size : Factor → R) where
-  abbrev pub Right : (List Factor → List Factor → R → Outcome R) → Type 0
-  Right f = Faithful (orderIn ks) (bases n ks) rational.value N size f
+-- any table t, its rows known as ks
+module _ (t : Rows) (ks : List Facts) where
+  abbrev pub Right : (List Factor → List Factor → Float → Outcome Float) → Type 0
+  Right f = Faithful (rulesIn t ks) rational.value f
 
   -- conversion is right in every case
-  pub converts : Right (convert (orderIn ks) (bases n ks) N size)
-  converts = f.faithful (orderIn ks) (bases n ks) rational.value (orderIn-total ks) N size
+  pub converts : Right (convert (rulesIn t ks))
+  converts = f.faithful (rulesIn t ks) rational.value (orderIn-total ks)
 
   -- what is right is conversion
-  pub alone : (f : List Factor → List Factor → R → Outcome R) → Right f → (l m : List Factor) (v : R) → f l m v ≡ convert (orderIn ks) (bases n ks) N size l m v
-  alone = f.only-one (orderIn ks) (bases n ks) rational.value (orderIn-total ks) N size
+  pub alone : (f : List Factor → List Factor → Float → Outcome Float) → Right f → (l m : List Factor) (v : Float) → f l m v ≡ convert (rulesIn t ks) l m v
+  alone = f.only-one (rulesIn t ks) rational.value (orderIn-total ks)
 
 -- ---- in a table of metre, second and minute = 60 second
 abbrev pub sixty : Float
@@ -72,16 +72,16 @@ table = row (pos 1) (pos 0) one 0 true ∷ row (pos 0) (pos 1) one 1 true ∷ ro
 
 -- `unfolding computed` opens what a conversion computes with
 unfoldable computed : Unit {0}
-unfolding worked bind each bitsOf raise power mul div eq toBits ofBits inverted withExponent entry entries baseAt base raisedBy raisedTo scaleFrom expAt scaleAt places keyOrder rowOrder place insert gather unless nonzero canon isEq sameList sameAll meet ifSame withShared sharedWith common judged choose rescaled against unlike convert
+unfolding worked bind each bitsOf raise power mul div eq toBits ofBits inverted withExponent entry entries baseAt base raisedBy raisedTo scaleFrom expAt scaleAt places placed slotted slotsFrom keyOrder rowOrder place insert gather dropIf nonzero canon isEq sameList sameAll meet ifSame withShared sharedWith common judged choose rescaled against unlike convert
 computed = tt
 
 -- the table is admitted, and known as that
 pub admits : admit rows ≡ admitted table
-unfolding computed outcome.unless some factorFault multiple whole wholes divisor below turn shrink reduce key placed slotted slotsFrom isBase count kindFault tableFault rowExps rowScale workedOut rowFacts admitFrom admit
+unfolding computed outcome.unless some factorFault multiple whole wholes divisor below turn shrink reduce key isBase count kindFault tableFault rowExps rowScale workedOut rowFacts admitFrom admit
 admits = refl
 
 abbrev conversion : List Factor → List Factor → Float → Outcome Float
-conversion l m v = convert (orderIn table) (bases 2 table) binary64 (sizeBy (scaleAt table)) l m v
+conversion l m v = convert (rulesIn rows table) l m v
 
 minute-second : conversion (unitOf 2) (unitOf 1) one ≡ given sixty
 unfolding computed
@@ -93,11 +93,10 @@ metre-second = refl
 
 -- right in this table
 abbrev pub Good : (List Factor → List Factor → Float → Outcome Float) → Type 0
-Good f = Right table (length (slots (rowsOf rows))) binary64 (sizeBy (scaleAt table)) f
+Good f = Right rows table f
 
 good-is : (f : List Factor → List Factor → Float → Outcome Float) → Good f → (l m : List Factor) (v : Float) → f l m v ≡ conversion l m v
-unfolding computed placed slotted slotsFrom
-good-is = alone table 2 binary64 (sizeBy (scaleAt table))
+good-is = alone rows table
 
 -- one that refuses everything, or has any one answer for all, is not right
 pub not-one-answer : (o : Outcome Float) → Good (λ l m v. o) → ⊥

@@ -3,15 +3,13 @@ use mathlib.Core.Path.{_≡_, refl, sym, _∙_, ap, ap₂, subst}
 use mathlib.Core.Bool.{Bool, true, false, _||_, or-true, true≢false}
 use mathlib.Core.Logic.{_↔_}
 use mathlib.Core.List.{List}
-use Prim.Native.Nat.{ℕ, Ordering}
 use Rattle.exponents.specs.Outcome.{Refusal, RANGE, UNITS, FRACTION, Outcome, given, refused}
 use Rattle.exponents.specs.declared.Exponent.{Exponent}
 use Rattle.exponents.proofs.Holds.{Only, fine, only, only-out, either, bind-given, bind-refused}
 use Rattle.exponents.proofs.Value.{Value}
 use Rattle.units.specs.declared.Factor.{Factor}
-use Rattle.tables.specs.Scale.{Numbers}
+use Rattle.tables.specs.Rules.{Rules}
 use Rattle.tables.proofs.Total.{Total}
-use Rattle.canonical.specs.Order.{Atom}
 use Rattle.canonical.specs.Canonical.{sameAll, canon, sameList}
 use Rattle.canonical.proofs.Algebra.{exact-canon}
 use Rattle.canonical.proofs.Bases.{Agree}
@@ -24,13 +22,13 @@ use Rattle.conversion.proofs.Refusals.{given-not-refused, range-not-uni
 use Rattle.conversion.proofs.Cases.{Unlike, Reduced, Stopped, at-own, at-target, at-reduced, Case, zero, equal, stopped, units, value, answer, Faithful}
 use Rattle.conversion.proofs.Reduction.{Over, reduction-decides, either-way, against-stops, against-units, against-value, stops-only}
 
-module _ {R : Type 0} where
-  choose-on : (t : Bool) (v : R) (o : Outcome R) → t ≡ true → choose t v o ≡ given v
+module _ {A : Type 0} where
+  choose-on : (t : Bool) (v : A) (o : Outcome A) → t ≡ true → choose t v o ≡ given v
   unfolding choose
   choose-on true v o e = refl
   choose-on false v o e = absurd (true≢false (sym e))
 
-  choose-off : (t : Bool) (v : R) (o : Outcome R) → t ≡ false → choose t v o ≡ o
+  choose-off : (t : Bool) (v : A) (o : Outcome A) → t ≡ false → choose t v o ≡ o
   unfolding choose
   choose-off true v o e = absurd (true≢false e)
   choose-off false v o e = refl
@@ -43,110 +41,107 @@ whether false f g = g refl
 decided : {P C : Type 0} (t : Bool) → Decides P t → (P → C) → ((P → ⊥) → C) → C
 decided t d f g = whether t (λ e. f (d .yea e)) (λ e. g (d .nay e))
 
-module _ (cmp : Atom → Atom → Ordering) (bs : List (ℕ → Exponent)) (W : Value) (O : Total cmp) {R : Type 0} (N : Numbers R) (size : Factor → R) where
-  abbrev conv : List Factor → List Factor → R → Outcome R
-  conv l m v = convert cmp bs N size l m v
+module _ {A : Type 0} (R : Rules A) (W : Value) (O : Total (R .order)) where
+  over-both : (l m c : List Factor) → Over W l m c (over l c) (canon (R .order) (over m c))
+  over-both l m c = record { own-same = λ b. refl; target-same = exact-canon W (R .order) O (over m c) }
 
-  over-both : (l m c : List Factor) → Over W l m c (over l c) (canon cmp (over m c))
-  over-both l m c = record { own-same = λ b. refl; target-same = exact-canon W cmp O (over m c) }
-
-  both-answer : (l m cl cm : List Factor) (v : R) → canon cmp l ≡ given cl → canon cmp m ≡ given cm →
-      conv l m v ≡ choose (N .isZero v || sameList cmp cl cm) v (unlike cmp bs N size (common cmp cl cm) l m v)
+  both-answer : (l m cl cm : List Factor) (v : A) → canon (R .order) l ≡ given cl → canon (R .order) m ≡ given cm →
+      convert R l m v ≡ choose (R .numbers .isZero v || sameList (R .order) cl cm) v (unlike R (common (R .order) cl cm) l m v)
   unfolding convert
   both-answer l m cl cm v el em = bind-given _ el ∙ bind-given _ em
 
-  lists-differ : (l m cl cm : List Factor) (v : R) → Unlike cmp bs W N size l m v cl cm → conv l m v ≡ against bs N size (over l (common cmp cl cm)) (canon cmp (over m (common cmp cl cm))) v
+  lists-differ : (l m cl cm : List Factor) (v : A) → Unlike R W l m v cl cm → convert R l m v ≡ against R (over l (common (R .order) cl cm)) (canon (R .order) (over m (common (R .order) cl cm))) v
   unfolding unlike
   lists-differ l m cl cm v u =
-      both-answer l m cl cm v (u .own) (u .target) ∙ choose-off _ v _ (ap₂ _||_ (u .nonzero) (missed _ (same-list cmp O cl cm) (u .differ)))
+      both-answer l m cl cm v (u .own) (u .target) ∙ choose-off _ v _ (ap₂ _||_ (u .nonzero) (missed _ (same-list (R .order) O cl cm) (u .differ)))
 
-  stops : (l m : List Factor) (v : R) {r : Refusal} → Stopped cmp bs W N size l m v r → conv l m v ≡ refused r
+  stops : (l m : List Factor) (v : A) {r : Refusal} → Stopped R W l m v r → convert R l m v ≡ refused r
   unfolding convert
   stops l m v (at-own e) = bind-refused _ e
   stops l m v (at-target el e) = bind-given _ el ∙ bind-refused _ e
-  stops l m v (at-reduced u s) = lists-differ l m _ _ v u ∙ against-stops bs N size _ _ v s
+  stops l m v (at-reduced u s) = lists-differ l m _ _ v u ∙ against-stops R _ _ v s
 
   -- THEOREM: the conversion is right in every case
-  pub faithful : Faithful cmp bs W N size conv
+  pub faithful : Faithful R W (convert R)
   unfolding rescaled
-  faithful l m v (zero {cl} {cm} el em z) = both-answer l m cl cm v el em ∙ choose-on _ v _ (ap (λ t. t || sameList cmp cl cm) z)
-  faithful l m v (equal {c} el em) = both-answer l m c c v el em ∙ choose-on _ v _ (ap (λ t. N .isZero v || t) (found _ (same-list cmp O c c) refl) ∙ or-true (N .isZero v))
+  faithful l m v (zero {cl} {cm} el em z) = both-answer l m cl cm v el em ∙ choose-on _ v _ (ap (λ t. t || sameList (R .order) cl cm) z)
+  faithful l m v (equal {c} el em) = both-answer l m c c v el em ∙ choose-on _ v _ (ap (λ t. R .numbers .isZero v || t) (found _ (same-list (R .order) O c c) refl) ∙ or-true (R .numbers .isZero v))
   faithful l m v (stopped s) = stops l m v s
-  faithful l m v (units {cl} {cm} s n) = lists-differ l m cl cm v (s .lists) ∙ against-units bs N size _ _ v (s .steps) W l m _ (over-both l m (common cmp cl cm)) n
-  faithful l m v (value {cl} {cm} s a) = lists-differ l m cl cm v (s .lists) ∙ against-value bs N size _ _ v (s .steps) W l m _ (over-both l m (common cmp cl cm)) a
+  faithful l m v (units {cl} {cm} s n) = lists-differ l m cl cm v (s .lists) ∙ against-units R _ _ v (s .steps) W l m _ (over-both l m (common (R .order) cl cm)) n
+  faithful l m v (value {cl} {cm} s a) = lists-differ l m cl cm v (s .lists) ∙ against-value R _ _ v (s .steps) W l m _ (over-both l m (common (R .order) cl cm)) a
 
-  module _ (l m : List Factor) (v : R) where
-    differing : (cl cm : List Factor) → Unlike cmp bs W N size l m v cl cm → Case cmp bs W N size l m v
+  module _ (l m : List Factor) (v : A) where
+    differing : (cl cm : List Factor) → Unlike R W l m v cl cm → Case R W l m v
     differing cl cm u =
-        either-way bs (over l (common cmp cl cm)) (canon cmp (over m (common cmp cl cm)))
-        (λ x t y s. decided (sameAll x y) (reduction-decides W bs l m _ _ _ (over-both l m (common cmp cl cm)) s) (value (record { lists = u; steps = s })) (units (record { lists = u; steps = s })))
+        either-way (R .bases) (over l (common (R .order) cl cm)) (canon (R .order) (over m (common (R .order) cl cm)))
+        (λ x t y s. decided (sameAll x y) (reduction-decides W (R .bases) l m _ _ _ (over-both l m (common (R .order) cl cm)) s) (value (record { lists = u; steps = s })) (units (record { lists = u; steps = s })))
         (λ r s. stopped (at-reduced u s))
 
-    compared : (cl cm : List Factor) → canon cmp l ≡ given cl → canon cmp m ≡ given cm → N .isZero v ≡ false → Case cmp bs W N size l m v
+    compared : (cl cm : List Factor) → canon (R .order) l ≡ given cl → canon (R .order) m ≡ given cm → R .numbers .isZero v ≡ false → Case R W l m v
     compared cl cm el em z =
-        decided (sameList cmp cl cm) (same-list cmp O cl cm)
+        decided (sameList (R .order) cl cm) (same-list (R .order) O cl cm)
         (λ e. equal (el ∙ ap given e) em)
         (λ n. differing cl cm (record { own = el; target = em; nonzero = z; differ = n }))
 
     -- THEOREM: one of the cases holds
-    pub case : Case cmp bs W N size l m v
+    pub case : Case R W l m v
     case =
-        either (canon cmp l)
-        (λ cl el. either (canon cmp m) (λ cm em. whether (N .isZero v) (zero el em) (compared cl cm el em)) (λ r e. stopped (at-target el e)))
+        either (canon (R .order) l)
+        (λ cl el. either (canon (R .order) m) (λ cm em. whether (R .numbers .isZero v) (zero el em) (compared cl cm el em)) (λ r e. stopped (at-target el e)))
         (λ r e. stopped (at-own e))
 
   -- so what is right in every case answers as conversion does
-  pub only-one : (f : List Factor → List Factor → R → Outcome R) → Faithful cmp bs W N size f → (l m : List Factor) (v : R) → f l m v ≡ conv l m v
+  pub only-one : (f : List Factor → List Factor → A → Outcome A) → Faithful R W f → (l m : List Factor) (v : A) → f l m v ≡ convert R l m v
   only-one f h l m v = h l m v (case l m v) ∙ sym (faithful l m v (case l m v))
 
   -- ---- the other way round: what a refusal tells
 
   -- the five steps refuse only by RANGE
-  pub stopped-only : (S : Refusal → Type 0) → S RANGE → (l m : List Factor) (v : R) {r : Refusal} → Stopped cmp bs W N size l m v r → S r
-  stopped-only S range l m v (at-own e) = only-out (canon-only S range cmp l) e
-  stopped-only S range l m v (at-target el e) = only-out (canon-only S range cmp m) e
-  stopped-only S range l m v (at-reduced u s) = stops-only bs _ _ S range (canon-only S range cmp _) s
+  pub stopped-only : (S : Refusal → Type 0) → S RANGE → (l m : List Factor) (v : A) {r : Refusal} → Stopped R W l m v r → S r
+  stopped-only S range l m v (at-own e) = only-out (canon-only S range (R .order) l) e
+  stopped-only S range l m v (at-target el e) = only-out (canon-only S range (R .order) m) e
+  stopped-only S range l m v (at-reduced u s) = stops-only (R .bases) _ _ S range (canon-only S range (R .order) _) s
 
   -- a conversion refuses by RANGE, by FRACTION, or, where base exponents differ, by UNITS
-  module _ (S : Refusal → Type 0) (range : S RANGE) (frac : S FRACTION) (l m : List Factor) (v : R) (differ : (Agree W bs l m → ⊥) → S UNITS) where
-    answer-only : (k : Case cmp bs W N size l m v) → Only S (answer cmp bs W N size k)
+  module _ (S : Refusal → Type 0) (range : S RANGE) (frac : S FRACTION) (l m : List Factor) (v : A) (differ : (Agree W (R .bases) l m → ⊥) → S UNITS) where
+    answer-only : (k : Case R W l m v) → Only S (answer R W k)
     unfolding rescaled
     answer-only (zero el em z) = fine
     answer-only (equal el em) = fine
     answer-only (stopped s) = only (stopped-only S range l m v s)
     answer-only (units s n) = only (differ n)
-    answer-only (value {t = t} s a) = fraction-only S frac (rescaled-is N size _ t v)
+    answer-only (value {t = t} s a) = fraction-only S frac (rescaled-is R _ t v)
 
-    pub convert-only : Only S (conv l m v)
+    pub convert-only : Only S (convert R l m v)
     convert-only = subst (λ o. Only S o) (sym (faithful l m v (case l m v))) (answer-only (case l m v))
 
-  module _ (l m : List Factor) (v : R) where
+  module _ (l m : List Factor) (v : A) where
     -- two scales refuse only by FRACTION
-    by-fraction : (own t : List Factor) {r : Refusal} → rescaled N size own t v ≡ refused r → r ≡ FRACTION
-    by-fraction own t e = only-out (fraction-only (λ r. r ≡ FRACTION) refl (rescaled-is N size own t v)) e
+    by-fraction : (own t : List Factor) {r : Refusal} → rescaled R own t v ≡ refused r → r ≡ FRACTION
+    by-fraction own t e = only-out (fraction-only (λ r. r ≡ FRACTION) refl (rescaled-is R own t v)) e
 
-    stopped-from : (k : Case cmp bs W N size l m v) → answer cmp bs W N size k ≡ refused RANGE → Stopped cmp bs W N size l m v RANGE
+    stopped-from : (k : Case R W l m v) → answer R W k ≡ refused RANGE → Stopped R W l m v RANGE
     unfolding rescaled
     stopped-from (zero el em z) e = absurd (given-not-refused e)
     stopped-from (equal el em) e = absurd (given-not-refused e)
-    stopped-from (stopped s) e = subst (λ r. Stopped cmp bs W N size l m v r) (stopped-only (λ r. r ≡ RANGE) refl l m v s) s
+    stopped-from (stopped s) e = subst (λ r. Stopped R W l m v r) (stopped-only (λ r. r ≡ RANGE) refl l m v s) s
     stopped-from (units s n) e = absurd (range-not-units (only-out {S = λ r. r ≡ UNITS} (only refl) e))
     stopped-from (value {t = t} s a) e = absurd (range-not-fraction (by-fraction _ t e))
 
     -- RANGE exactly where one of the five steps refuses; by `stopped-only` a step has no other refusal
-    pub range-exactly : (conv l m v ≡ refused RANGE) ↔ Stopped cmp bs W N size l m v RANGE
+    pub range-exactly : (convert R l m v ≡ refused RANGE) ↔ Stopped R W l m v RANGE
     range-exactly = (λ e. stopped-from (case l m v) (sym (faithful l m v (case l m v)) ∙ e), stops l m v)
 
     -- all five steps answer
-    module _ {cl cm t : List Factor} {x y : List Exponent} (s : Reduced cmp bs W N size l m v cl cm x t y) where
+    module _ {cl cm t : List Factor} {x y : List Exponent} (s : Reduced R W l m v cl cm x t y) where
       -- UNITS exactly where the base exponents of l and m differ
-      pub units-exactly : (conv l m v ≡ refused UNITS) ↔ (Agree W bs l m → ⊥)
+      pub units-exactly : (convert R l m v ≡ refused UNITS) ↔ (Agree W (R .bases) l m → ⊥)
       unfolding rescaled
       units-exactly = (λ e a. units-not-fraction (by-fraction _ t (sym (faithful l m v (value s a)) ∙ e)), λ n. faithful l m v (units s n))
 
       -- else FRACTION exactly where a size other than 1 meets an exponent that isn't whole, in the own list over the common factors or in the target over them
-      pub fraction-exactly : Agree W bs l m → Fraction (fractional N size (over l (common cmp cl cm)) || fractional N size t) (conv l m v)
+      pub fraction-exactly : Agree W (R .bases) l m → Fraction (fractional R (over l (common (R .order) cl cm)) || fractional R t) (convert R l m v)
       unfolding rescaled
       fraction-exactly a =
-          subst (λ o. Fraction (fractional N size (over l (common cmp cl cm)) || fractional N size t) o) (sym (faithful l m v (value s a)))
-          (rescaled-is N size (over l (common cmp cl cm)) t v)
+          subst (λ o. Fraction (fractional R (over l (common (R .order) cl cm)) || fractional R t) o) (sym (faithful l m v (value s a)))
+          (rescaled-is R (over l (common (R .order) cl cm)) t v)

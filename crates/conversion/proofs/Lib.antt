@@ -1,5 +1,4 @@
 pub mod Converting
-pub mod Agreeing
 pub mod Refusals
 pub mod Cases
 pub mod Reduction

@@ -4,14 +4,14 @@ use mathlib.Core.Bool.{Bool, true, false, true≢false}
 use mathlib.Core.Logic.{_↔_}
 use mathlib.Core.List.{List}
 use Prim.Native.Nat.{ℕ}
-use Rattle.exponents.specs.Outcome.{Refusal, RANGE, UNITS, Outcome, given, refused}
+use Rattle.exponents.specs.Outcome.{Refusal, RANGE, UNITS, Outcome, refused}
 use Rattle.exponents.specs.declared.Exponent.{Exponent}
 use Rattle.exponents.proofs.Holds.{Holds, Only, only-out, take-out, either, bind-given, bind-refused}
 use Rattle.exponents.proofs.Value.{Value}
 use Rattle.exponents.proofs.Totals.{cancel}
 use Rattle.units.specs.declared.Factor.{Factor}
 use Rattle.tables.specs.Lists.{base}
-use Rattle.tables.specs.Scale.{Numbers}
+use Rattle.tables.specs.Rules.{Rules}
 use Rattle.canonical.specs.Canonical.{sameAll}
 use Rattle.canonical.proofs.Algebra.{exact, exact-over}
 use Rattle.canonical.proofs.Bases.{Agree, base-decides, agree-map}
@@ -60,35 +60,35 @@ module _ (bs : List (ℕ → Exponent)) (own : List Factor) (target : Outcome (L
   stops-only S range h (at-target-base {t = t} ex et e) = only-out (base-only S range bs t) e
 
 -- ---- the value against the target
-module _ {R : Type 0} where
-  judged-on : (t : Bool) (o : Outcome R) → t ≡ true → judged t o ≡ o
+module _ {A : Type 0} where
+  judged-on : (t : Bool) (o : Outcome A) → t ≡ true → judged t o ≡ o
   unfolding judged
   judged-on true o e = refl
   judged-on false o e = absurd (true≢false (sym e))
 
-  judged-off : (t : Bool) (o : Outcome R) → t ≡ false → judged t o ≡ refused UNITS
+  judged-off : (t : Bool) (o : Outcome A) → t ≡ false → judged t o ≡ refused UNITS
   unfolding judged
   judged-off true o e = absurd (true≢false e)
   judged-off false o e = refl
 
-module _ (bs : List (ℕ → Exponent)) {R : Type 0} (N : Numbers R) (size : Factor → R) (own : List Factor) (target : Outcome (List Factor)) (v : R) where
+module _ {A : Type 0} (R : Rules A) (own : List Factor) (target : Outcome (List Factor)) (v : A) where
   -- the first step that refuses is answered
-  pub against-stops : {r : Refusal} → Stops bs own target r → against bs N size own target v ≡ refused r
+  pub against-stops : {r : Refusal} → Stops (R .bases) own target r → against R own target v ≡ refused r
   unfolding against
   against-stops (at-own-base e) = bind-refused _ e
   against-stops (at-over ex e) = bind-given _ ex ∙ bind-refused _ e
   against-stops (at-target-base ex et e) = bind-given _ ex ∙ bind-given _ et ∙ bind-refused _ e
 
-  module _ {x : List Exponent} {t : List Factor} {y : List Exponent} (s : Passed bs own target x t y) where
-    judges : against bs N size own target v ≡ judged (sameAll x y) (rescaled N size own t v)
+  module _ {x : List Exponent} {t : List Factor} {y : List Exponent} (s : Passed (R .bases) own target x t y) where
+    judges : against R own target v ≡ judged (sameAll x y) (rescaled R own t v)
     unfolding against
     judges = bind-given _ (s .own-base) ∙ bind-given _ (s .target-is) ∙ bind-given _ (s .target-base)
 
     module _ (W : Value) (l m c : List Factor) (k : Over W l m c own target) where
       -- all steps answer, and the base exponents of l and m differ: UNITS
-      pub against-units : (Agree W bs l m → ⊥) → against bs N size own target v ≡ refused UNITS
-      against-units n = judges ∙ judged-off _ _ (missed _ (reduction-decides W bs l m c own target k s) n)
+      pub against-units : (Agree W (R .bases) l m → ⊥) → against R own target v ≡ refused UNITS
+      against-units n = judges ∙ judged-off _ _ (missed _ (reduction-decides W (R .bases) l m c own target k s) n)
 
       -- or agree: the value by the two scales
-      pub against-value : Agree W bs l m → against bs N size own target v ≡ rescaled N size own t v
-      against-value a = judges ∙ judged-on _ _ (found _ (reduction-decides W bs l m c own target k s) a)
+      pub against-value : Agree W (R .bases) l m → against R own target v ≡ rescaled R own t v
+      against-value a = judges ∙ judged-on _ _ (found _ (reduction-decides W (R .bases) l m c own target k s) a)

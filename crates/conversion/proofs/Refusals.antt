@@ -5,15 +5,16 @@ use mathlib.Core.List.{List, [], _∷_}
 use Prim.Native.Nat.{ℕ, Ordering, Ordering·lt, Ordering·eq, Ordering·gt}
 use native.Mathlib.Omega.{arith}
 use lib.Dec.{eqb}
-use Rattle.exponents.specs.Outcome.{Refusal, RANGE, UNITS, FRACTION, Outcome, given, refused, map, bind, each}
+use Rattle.exponents.specs.Outcome.{Refusal, RANGE, UNITS, FRACTION, Outcome, given, refused, apply, bind, each}
 use Rattle.exponents.specs.Fractions.{nought, sum?}
 use Rattle.exponents.specs.declared.Exponent.{Exponent}
 use Rattle.exponents.proofs.Holds.{Only, fine, only, only-map, only-bind}
 use Rattle.exponents.proofs.InRange.{ranged-only}
 use Rattle.units.specs.declared.Factor.{Factor}
 use Rattle.tables.specs.Lists.{baseAt, base}
-use Rattle.tables.specs.Scale.{Numbers, raise, raisedTo, scaleFrom}
-use Rattle.canonical.specs.Order.{Atom}
+use Rattle.tables.specs.Scale.{raise, raisedTo, scaleFrom}
+use Rattle.tables.specs.Rules.{Rules}
+use Rattle.tables.specs.Order.{Atom}
 use Rattle.canonical.specs.Canonical.{place, insert, gather, canon}
 use Rattle.conversion.specs.Conversion.{rescaled}
 use Rattle.conversion.specs.Fractional.{fractional}
@@ -71,34 +72,34 @@ module _ (S : Refusal → Type 0) (range : S RANGE) where
 -- ---- a scale
 
 -- refused by FRACTION, or worked out
-pub data Fraction {R : Type 0} : Bool → Outcome R → Type 0 where
+pub data Fraction {A : Type 0} : Bool → Outcome A → Type 0 where
   fraction : Fraction true (refused FRACTION)
-  worked : {p : R} → Fraction false (given p)
+  worked : {p : A} → Fraction false (given p)
 
-pub fraction-only : {R : Type 0} (S : Refusal → Type 0) → S FRACTION → {t : Bool} {o : Outcome R} → Fraction t o → Only S o
+pub fraction-only : {A : Type 0} (S : Refusal → Type 0) → S FRACTION → {t : Bool} {o : Outcome A} → Fraction t o → Only S o
 fraction-only S h fraction = only h
 fraction-only S h worked = fine
 
-module _ {R : Type 0} (N : Numbers R) (size : Factor → R) where
-  raise-is : (w o : Bool) (p u : R) (k : R → Outcome R) (t : Bool) → ((q : R) → Fraction t (k q)) → Fraction ((not w && not o) || t) (bind (raise w o p u) k)
+module _ {A : Type 0} (R : Rules A) where
+  raise-is : (w o : Bool) (p u : A) (k : A → Outcome A) (t : Bool) → ((q : A) → Fraction t (k q)) → Fraction ((not w && not o) || t) (bind (raise w o p u) k)
   unfolding raise bind
   raise-is true o p u k t h = h p
   raise-is false true p u k t h = h u
   raise-is false false p u k t h = fraction
 
   -- FRACTION exactly where a size other than 1 meets an exponent that isn't whole
-  pub scale-is : (s : R) (l : List Factor) → Fraction (fractional N size l) (scaleFrom N size s l)
+  pub scale-is : (s : A) (l : List Factor) → Fraction (fractional R l) (scaleFrom (R .numbers) (R .size) s l)
   unfolding scaleFrom raisedTo fractional
   scale-is s [] = worked
-  scale-is s (f ∷ l) = raise-is (eqb (f .exponent .den) 1) (N .isOne (size f)) _ _ _ (fractional N size l) λ q. scale-is (N .times s q) l
+  scale-is s (f ∷ l) = raise-is (eqb (f .exponent .den) 1) (R .numbers .isOne (R .size f)) _ _ _ (fractional R l) λ q. scale-is (R .numbers .times s q) l
 
-  both-is : (a b : Bool) (o p : Outcome R) (f : R → R → R) → Fraction a o → Fraction b p → Fraction (a || b) (bind o (λ s. map (f s) p))
+  both-is : (a b : Bool) (o p : Outcome A) (f : A → A → A) → Fraction a o → Fraction b p → Fraction (a || b) (bind o (λ s. apply (f s) p))
   unfolding bind
   both-is true b o p f fraction k = fraction
   both-is false true o p f worked fraction = fraction
   both-is false false o p f worked worked = worked
 
   -- the quotient of two scales: FRACTION exactly where one of them is
-  pub rescaled-is : (own target : List Factor) (v : R) → Fraction (fractional N size own || fractional N size target) (rescaled N size own target v)
+  pub rescaled-is : (own target : List Factor) (v : A) → Fraction (fractional R own || fractional R target) (rescaled R own target v)
   unfolding rescaled
-  rescaled-is own target v = both-is _ _ _ _ (λ s t. N .divide (N .times v s) t) (scale-is (N .one) own) (scale-is (N .one) target)
+  rescaled-is own target v = both-is _ _ _ _ (λ s t. R .numbers .divide (R .numbers .times v s) t) (scale-is (R .numbers .one) own) (scale-is (R .numbers .one) target)

@@ -3,9 +3,9 @@ use mathlib.Core.Bool.{Bool, false, _||_, _&&_, not}
 use mathlib.Core.List.{List, [], _∷_}
 use lib.Dec.{eqb}
 use Rattle.units.specs.declared.Factor.{Factor}
-use Rattle.tables.specs.Scale.{Numbers}
+use Rattle.tables.specs.Rules.{Rules}
 
-module _ {R : Type 0} (N : Numbers R) (size : Factor → R) where
+module _ {A : Type 0} (R : Rules A) where
   unfoldable pub fractional : List Factor → Bool
   fractional [] = false
-  fractional (f ∷ l) = (not (eqb (f .exponent .den) 1) && not (N .isOne (size f))) || fractional l
+  fractional (f ∷ l) = (not (eqb (f .exponent .den) 1) && not (R .numbers .isOne (R .size f))) || fractional l

@@ -1,2 +1,3 @@
 pub mod Conversion
 pub mod Fractional
+pub mod Held

@@ -1,19 +1,14 @@
 // A value converted from one resolved list to another (01, "Conversion, sums, comparison"): RANGE, then UNITS, then FRACTION.
 ghost use mathlib.Core.Path.{_≡_};
-ghost use mathlib.Core.Bool.{false};
 ghost use mathlib.Core.List.{List, _++_};
-ghost use Prim.Native.Nat.{_≤_};
-ghost use lib.ListN.{length};
+ghost use Prim.Native.Nat.{ℕ};
 ghost use Rattle.exponents.specs.Outcome.{given};
 ghost use Rattle.units.specs.declared.Factor.{Factor as Factorᵛ};
-ghost use Rattle.units.specs.Lists.{some, factorFault};
-ghost use Rattle.tables.specs.Scale.{binary64, sizeBy, scale};
-ghost use Rattle.tables.specs.Rows.{scaledOf};
-ghost use Rattle.tables.specs.Items.{View, Lent, viewBases, packItems};
-ghost use Rattle.canonical.specs.Order.{byPlace};
+ghost use Rattle.tables.specs.Rules.{scaleBy};
+ghost use Rattle.tables.specs.Held.{scaledOf, View, Resolved, Lends, rulesBy};
 ghost use Rattle.conversion.specs.Conversion as spec;
-ghost use Rattle.conversion.specs.Conversion.{rescaled as rescaledBy, against as settled, convertedOf, refusedBy};
-ghost use Rattle.common.specs.Lessened.{lessen};
+ghost use Rattle.conversion.specs.Held.{convertedOf, refusedBy};
+ghost use Rattle.common.specs.Held.{lessen};
 use exponents::refusals::UNITS;
 use tables::Items;
 use tables::scales::Scaled;
@@ -36,7 +31,7 @@ pub fn refusal_of(c: Converted) -> u32
 
 // x times the own scale a, divided by the scale of t.
 fn rescaled(x: f64, a: Scaled, t: Items) -> Converted
-    ensures { λ r. ⌜ ((v : View) (own ts : List Factorᵛ) → a ≡ scaledOf (scale binary64 (sizeBy (v .scale)) own) → t ≡ packItems v ts → length ts ≤ 16 → r ≡ convertedOf (rescaledBy binary64 (sizeBy (v .scale)) own ts x)) ⌝ }
+    ensures { λ r. ⌜ ((v : View) (n : ℕ) (own ts : List Factorᵛ) → a ≡ scaledOf (scaleBy (rulesBy v n) own) → Resolved v t ts → r ≡ convertedOf (spec.rescaled (rulesBy v n) own ts x)) ⌝ }
 {
     match a {
         Scaled::Value(own) => {
@@ -52,7 +47,7 @@ fn rescaled(x: f64, a: Scaled, t: Items) -> Converted
 
 // Between lists that have no factors in common: m is the target's canonical form.
 fn apart(x: f64, l: Items, m: Items, n: usize, nums: &[i32], dens: &[u32]) -> Converted
-    ensures { λ r. ⌜ ((v : View) → Lent v (now (nums .entry)) (now (dens .entry)) → (fs gs : List Factorᵛ) → l ≡ packItems v fs → m ≡ packItems v gs → length fs ≤ 16 → length gs ≤ 16 → n ≤ 16 → some factorFault fs ≡ false → some factorFault gs ≡ false → r ≡ convertedOf (settled (viewBases v n) binary64 (sizeBy (v .scale)) fs (given gs) x)) ⌝ }
+    ensures { λ r. ⌜ ((v : View) (fs gs : List Factorᵛ) → Lends v n (now (nums .entry)) (now (dens .entry)) → Resolved v l fs → Resolved v m gs → r ≡ convertedOf (spec.against (rulesBy v n) fs (given gs) x)) ⌝ }
 {
     let a = reduction::bases::base_of(l, n, nums, dens);
     if a.refusal != 0 {
@@ -73,7 +68,7 @@ fn apart(x: f64, l: Items, m: Items, n: usize, nums: &[i32], dens: &[u32]) -> Co
 
 // Between lists that differ: c has their common factors, inverted, and m is the target's canonical form. The own list over c is not merged.
 fn unlike(x: f64, l: Items, m: Items, c: Items, n: usize, nums: &[i32], dens: &[u32]) -> Converted
-    ensures { λ r. ⌜ ((v : View) → Lent v (now (nums .entry)) (now (dens .entry)) → (fs gs cs : List Factorᵛ) → l ≡ packItems v fs → m ≡ packItems v gs → c ≡ packItems v cs → length fs ≤ 16 → length gs ≤ 16 → length cs ≤ 16 → n ≤ 16 → some factorFault fs ≡ false → some factorFault gs ≡ false → some factorFault cs ≡ false → r ≡ convertedOf (settled (viewBases v n) binary64 (sizeBy (v .scale)) (fs ++ cs) (lessen (byPlace v) gs cs) x)) ⌝ }
+    ensures { λ r. ⌜ ((v : View) (fs gs cs : List Factorᵛ) → Lends v n (now (nums .entry)) (now (dens .entry)) → Resolved v l fs → Resolved v m gs → Resolved v c cs → r ≡ convertedOf (spec.against (rulesBy v n) (fs ++ cs) (lessen (v .order) gs cs) x)) ⌝ }
 {
     let a = reduction::bases::base_exponents(l, c, n, nums, dens);
     if a.refusal != 0 {
@@ -99,7 +94,7 @@ fn unlike(x: f64, l: Items, m: Items, c: Items, n: usize, nums: &[i32], dens: &[
 
 // x of the list l in the list m, where there are n base rows.
 pub fn convert(x: f64, l: Items, m: Items, n: usize, nums: &[i32], dens: &[u32]) -> Converted
-    ensures { λ r. ⌜ ((v : View) → Lent v (now (nums .entry)) (now (dens .entry)) → (fs gs : List Factorᵛ) → l ≡ packItems v fs → m ≡ packItems v gs → length fs ≤ 16 → length gs ≤ 16 → n ≤ 16 → some factorFault fs ≡ false → some factorFault gs ≡ false → r ≡ convertedOf (spec.convert (byPlace v) (viewBases v n) binary64 (sizeBy (v .scale)) fs gs x)) ⌝ }
+    ensures { λ r. ⌜ ((v : View) (fs gs : List Factorᵛ) → Lends v n (now (nums .entry)) (now (dens .entry)) → Resolved v l fs → Resolved v m gs → r ≡ convertedOf (spec.convert (rulesBy v n) fs gs x)) ⌝ }
 {
     let a = canonical::form::canonical(l);
     if a.refusal != 0 {

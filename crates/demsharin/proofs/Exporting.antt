@@ -4,7 +4,8 @@ use mathlib.Core.List.{List}
 use Prim.Native.Nat.{ℕ}
 use Rattle.exponents.specs.Outcome.{Outcome, given, refused, refusalOf}
 use Rattle.replies.specs.declared.Reply.{Reply}
-use Rattle.replies.specs.Replies.{sent, replyOf, Replied}
+use Rattle.replies.specs.Replies.{sent}
+use Rattle.replies.specs.Held.{replyOf, Replied}
 use Rattle.demsharin.specs.Exports.{Exported}
 
 number-is : (o : Outcome (List ℕ)) → replyOf o .refusal ≡ refusalOf o

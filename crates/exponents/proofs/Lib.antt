@@ -1,6 +1,8 @@
+pub mod Words
 pub mod Divisors
 pub mod Ring
 pub mod Holds
+pub mod Following
 pub mod Numbers
 pub mod Equality
 pub mod Size
@@ -16,4 +18,6 @@ pub mod Sound
 pub mod Totals
 pub mod Traversal
 pub mod Summing
+pub mod Places
+pub mod Each
 pub mod Examples

@@ -3,11 +3,13 @@ use mathlib.Core.Path.{_≡_, refl, sym, ap, _∙_}
 use mathlib.Core.Bool.{Bool, true, false}
 use Prim.Native.Nat.{ℕ, _<_}
 use native.Mathlib.Omega.{arith}
-use Rattle.exponents.specs.Outcome.{Refusal, TABLE, SHAPE, UNKNOWN, ROOM, RANGE, UNITS, FRACTION, DIVZERO, ZERONEG, NONWHOLE, NAN, number, Outcome, given, refused, unless, map, refusalOf}
-use Rattle.exponents.specs.Fractions.{neg, faulty, neg?, fractionOf}
+use Rattle.exponents.specs.Outcome.{Refusal, TABLE, SHAPE, UNKNOWN, ROOM, RANGE, UNITS, FRACTION, DIVZERO, ZERONEG, NONWHOLE, NAN, number, Outcome, given, refused, unless, apply, refusalOf}
+use Rattle.exponents.specs.Fractions.{neg, faulty}
+use Rattle.exponents.specs.Held.{neg?, fractionOf}
 use Rattle.exponents.specs.declared.Exponent.{Exponent}
 use Rattle.exponents.specs.declared.Fraction.the-variants.{Exact, Refused}
 use Rattle.exponents.proofs.InRange.{neg?-given}
+use Rattle.exponents.proofs.Holds.{one-answer}
 
 pub number-pos : (r : Refusal) → 0 < number r
 number-pos TABLE = omega arith
@@ -60,7 +62,7 @@ module _ {A : Type 0} where
   unless-passed true r o h = absurd (omega (arith, number-pos r))
   unless-passed false r o h = refl
 
-pub refusal-map : {A B : Type 0} (f : A → B) (o : Outcome A) → refusalOf (map f o) ≡ refusalOf o
+pub refusal-map : {A B : Type 0} (f : A → B) (o : Outcome A) → refusalOf (apply f o) ≡ refusalOf o
 refusal-map f (given a) = refl
 refusal-map f (refused r) = refl
 
@@ -75,10 +77,7 @@ refused-refuses (refused r) n e = record { why = r; is = refl; numbered = cc }
 -- ---- an exponent that keeps its rule, negated as code does it
 module _ (x : Exponent) (h : faulty x ≡ false) where
   pub negated-is : (y : Exponent) → fractionOf (neg? x) ≡ Exact y → y ≡ neg x
-  negated-is y e = same (sym (exact-given (neg? x) y e) ∙ neg?-given x h)
-    where
-      same : {x y : Exponent} → _≡_ {A = Outcome Exponent} (given x) (given y) → x ≡ y
-      same p = cc
+  negated-is y e = one-answer (sym (exact-given (neg? x) y e) ∙ neg?-given x h)
 
   pub always-negated : (n : ℕ) → fractionOf (neg? x) ≡ Refused n → ⊥
   always-negated n e = clash (sym (neg?-given x h) ∙ refused-refuses (neg? x) n e .is)

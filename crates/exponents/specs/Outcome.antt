@@ -41,9 +41,10 @@ unless true r o = refused r
 unless false r o = o
 
 module _ {A B : Type 0} where
-  abbrev pub map : (A → B) → Outcome A → Outcome B
-  map f (given a) = given (f a)
-  map f (refused r) = refused r
+  -- f of an answer; a refusal stays
+  abbrev pub apply : (A → B) → Outcome A → Outcome B
+  apply f (given a) = given (f a)
+  apply f (refused r) = refused r
 
   -- go on with an answer; a refusal stays
   unfoldable pub bind : Outcome A → (A → Outcome B) → Outcome B
@@ -53,14 +54,9 @@ module _ {A B : Type 0} where
 -- f at each of a list, from left to right; the first refusal stays
 unfoldable pub each : {A B : Type 0} → (A → Outcome B) → List A → Outcome (List B)
 each f [] = given []
-each f (a ∷ l) = bind (f a) (λ b. map (λ m. b ∷ m) (each f l))
+each f (a ∷ l) = bind (f a) (λ b. apply (λ m. b ∷ m) (each f l))
 
 -- how code hands an outcome over: 0 where there is an answer, else the refusal's number
 abbrev pub refusalOf : {A : Type 0} → Outcome A → ℕ
 refusalOf (given a) = 0
 refusalOf (refused r) = number r
-
--- 01, "The refusals": the number that a call tells, 0 where it answers, and the answer; beside a refusal `none`, which is zero, no or none
-abbrev pub toldOf : {A : Type 0} → A → Outcome A → ℕ × A
-toldOf none (given a) = (0, a)
-toldOf none (refused r) = (number r, none)

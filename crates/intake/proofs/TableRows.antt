@@ -15,7 +15,8 @@ use Rattle.units.specs.declared.Kind.the-variants.{Base, Derived}
 use Rattle.units.specs.declared.Row.{Row}
 use Rattle.tables.specs.declared.Slot.{Slot}
 use Rattle.tables.specs.declared.Admitted.{Admitted}
-use Rattle.tables.specs.Rows.{pick, slotted, slots, rowsOf, Admission, stopped, admitFrom, admit}
+use Rattle.exponents.specs.Words.{pick}
+use Rattle.tables.specs.Rows.{slotted, slots, rowsOf, Admission, stopped, admitFrom, admit}
 use Rattle.tables.proofs.Admitting.{Tells, within, over}
 use Rattle.wire.specs.Bytes.{le, runAt, padTo, countOf}
 use Rattle.wire.specs.Records.{kindOf, rowAt}

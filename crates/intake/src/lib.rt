@@ -5,9 +5,9 @@ ghost use mathlib.Core.Path.{_≡_};
 ghost use Prim.Native.Nat.{_*_, _≤_};
 ghost use lib.ListN.{length};
 ghost use Rattle.tables.specs.Rows as rows;
-ghost use Rattle.tables.specs.Rows.{rowsOf, packSlots};
-ghost use Rattle.tables.specs.Pages.{Room, Blank, Pages, admittedOf};
-ghost use Rattle.lists.specs.Opening.{Tells, baseRows, openedOf, opening};
+ghost use Rattle.tables.specs.Rows.{baseRows};
+ghost use Rattle.tables.specs.Held.{packSlots, Room, Blank, admittedOf, Admits};
+ghost use Rattle.lists.specs.Held.{Opens};
 ghost use Rattle.wire.specs.Bytes.{runAt};
 ghost use Rattle.wire.specs.Records.{rowAt};
 ghost use Rattle.wire.specs.Arguments.{tableFrom};
@@ -56,7 +56,7 @@ pub fn admit_bytes(
     based: &mut [bool],
 ) -> Admitted
     requires { ⌜ Room (now nums) (now dens) (now scales) (now ranks) (now based) × Blank 0 (now nums) (now dens) ⌝ }
-    ensures { λ r. ⌜ (r ≡ admittedOf (rows.slots (rowsOf (tableFrom (now (s .entry))))) (rows.admit (tableFrom (now (s .entry))))) × Room (now (nums .exit)) (now (dens .exit)) (now (scales .exit)) (now (ranks .exit)) (now (based .exit)) × Pages (rows.admit (tableFrom (now (s .entry)))) (now (nums .exit)) (now (dens .exit)) (now (scales .exit)) (now (ranks .exit)) (now (based .exit)) ⌝ }
+    ensures { λ r. ⌜ Admits (tableFrom (now (s .entry))) r (now (nums .exit)) (now (dens .exit)) (now (scales .exit)) (now (ranks .exit)) (now (based .exit)) ⌝ }
 {
     let n = many(s.len(), 176, 128);
     if 128 < n {
@@ -96,7 +96,7 @@ pub fn admitted(s: &[u8]) -> Admitted
 // A table and two lists, checked in 01's order; the base exponents of the table's rows are left in two arrays, which have to be new.
 pub fn open_lists(s: &[u8], a: Factors, b: Factors, nums: &mut [i32], dens: &mut [u32]) -> Opened
     requires { ⌜ (length (now nums) ≡ 2048) × (length (now dens) ≡ 2048) × Blank 0 (now nums) (now dens) ⌝ }
-    ensures { λ r. ⌜ (r ≡ openedOf (baseRows (tableFrom (now (s .entry)))) (opening (tableFrom (now (s .entry))) a b)) × Tells (tableFrom (now (s .entry))) (now (nums .exit)) (now (dens .exit)) ⌝ }
+    ensures { λ r. ⌜ Opens (tableFrom (now (s .entry))) a b r (now (nums .exit)) (now (dens .exit)) ⌝ }
 {
     let mut scales = [1.0; 128];
     let mut ranks = [0u16; 128];

@@ -1,13 +1,13 @@
--- How each call hands a refusal over, and what it knows of the base rows.
+-- How each call hands a refusal over, and what is told of the base rows.
 use mathlib.Core.Path.{_≡_, refl, sym, ap, _∙_, subst}
 use mathlib.Core.Bool.{Bool, true, false}
-use mathlib.Core.List.{List, _++_}
+use mathlib.Core.List.{List}
 use Prim.Native.Nat.{ℕ}
 use native.Mathlib.Omega.{arith}
 use lib.IntN.{ℤ}
 use lib.Ieee.{Float}
 use lib.ListN.{length}
-use Rattle.exponents.specs.Outcome.{Refusal, Outcome, given, refused, number, map, bind}
+use Rattle.exponents.specs.Outcome.{Refusal, Outcome, given, refused, number, apply, bind}
 use Rattle.exponents.proofs.Holds.{bind-refused}
 use Rattle.exponents.proofs.Numbers.{Refuses}
 use Rattle.units.specs.declared.Factor.{Factor}
@@ -16,17 +16,16 @@ use Rattle.units.specs.declared.Rows.{Rows}
 use Rattle.units.specs.Lists.{pack, refusedBy, madeOf}
 use Rattle.tables.specs.declared.Slot.{Slot}
 use Rattle.tables.specs.declared.Slots.{Slots}
-use Rattle.tables.specs.Rows.{pick, Facts, Admission, admitted, stopped, admit, rowsOf, packSlots}
-use Rattle.tables.specs.Pages.{Pages}
-use Rattle.tables.specs.Items.{Lent, viewOf, viewBases}
+use Rattle.exponents.specs.Words.{pick}
+use Rattle.tables.specs.Rows.{Admission, admit, rowsOf}
+use Rattle.tables.specs.Held.{packSlots, Pages}
 use Rattle.tables.proofs.Slotting.{slots-few}
 use Rattle.tables.proofs.Telling.{lent-view}
-use Rattle.resolution.proofs.Viewed.{view-bases}
-use Rattle.reduction.specs.Reduction.{smallerOf}
+use Rattle.resolution.proofs.Keyed.{admits}
+use Rattle.resolution.proofs.Viewed.{view-short}
+use Rattle.reduction.specs.Held.{smallerOf}
 use Rattle.reduction.specs.declared.reduce.Smaller.the-variants as smaller
-use Rattle.lists.specs.Opening.{known, Opening, opening, Tells, baseRows}
-use Rattle.lists.specs.Calls.{basesIn}
-use Rattle.lists.proofs.Checks.{made-of}
+use Rattle.lists.specs.Held.{Tells}
 
 -- a refusal handed over: `hand` is how a call hands its outcome over, `empty` what that is for a refusal's number
 pub handed : {A B : Type 0} (empty : ℕ → B) (hand : Outcome A → B) → ((r : Refusal) → empty (number r) ≡ hand (refused r)) → (o : Outcome A) (n : ℕ) → Refuses o n → empty n ≡ hand o
@@ -42,12 +41,12 @@ made-given o fs u e h = (λ i. record { unit = h i; refusal = 0 }) ∙ ap madeOf
 -- ---- which of two lists is chosen
 module _ (o : Outcome Bool) (fs gs : List Factor) where
   abbrev chosen : Outcome (List Factor)
-  chosen = map (λ first. pick first fs gs) o
+  chosen = apply (λ first. pick first fs gs) o
 
   pub first-chosen : (u : Factors) → smallerOf o ≡ smaller.First → u ≡ pack fs → record { unit = u; refusal = 0 } ≡ madeOf chosen
   first-chosen u w h = made-given chosen fs u (go o w) h
     where
-      go : (o : Outcome Bool) → smallerOf o ≡ smaller.First → map (λ first. pick first fs gs) o ≡ given fs
+      go : (o : Outcome Bool) → smallerOf o ≡ smaller.First → apply (λ first. pick first fs gs) o ≡ given fs
       go (given true) e = refl
       go (given false) e = absurd (let z : _≡_ {A = ℕ} 0 1 = cc in omega arith)
       go (refused r) e = absurd (let z : _≡_ {A = ℕ} 0 1 = cc in omega arith)
@@ -55,7 +54,7 @@ module _ (o : Outcome Bool) (fs gs : List Factor) where
   pub second-chosen : (u : Factors) → smallerOf o ≡ smaller.Second → u ≡ pack gs → record { unit = u; refusal = 0 } ≡ madeOf chosen
   second-chosen u w h = made-given chosen gs u (go o w) h
     where
-      go : (o : Outcome Bool) → smallerOf o ≡ smaller.Second → map (λ first. pick first fs gs) o ≡ given gs
+      go : (o : Outcome Bool) → smallerOf o ≡ smaller.Second → apply (λ first. pick first fs gs) o ≡ given gs
       go (given true) e = absurd (let z : _≡_ {A = ℕ} 0 1 = cc in omega arith)
       go (given false) e = refl
       go (refused r) e = absurd (let z : _≡_ {A = ℕ} 0 1 = cc in omega arith)
@@ -63,32 +62,22 @@ module _ (o : Outcome Bool) (fs gs : List Factor) where
   pub neither-chosen : (n : ℕ) → smallerOf o ≡ smaller.Refused n → refusedBy n ≡ madeOf chosen
   neither-chosen n w = go o w
     where
-      go : (o : Outcome Bool) → smallerOf o ≡ smaller.Refused n → refusedBy n ≡ madeOf (map (λ first. pick first fs gs) o)
+      go : (o : Outcome Bool) → smallerOf o ≡ smaller.Refused n → refusedBy n ≡ madeOf (apply (λ first. pick first fs gs) o)
       go (given true) e = absurd (let z : _≡_ {A = ℕ} 0 1 = cc in omega arith)
       go (given false) e = absurd (let z : _≡_ {A = ℕ} 0 1 = cc in omega arith)
       go (refused r) e = let z : number r ≡ n = cc in ap refusedBy (sym z)
 
--- ---- what the arrays tell
+-- ---- what the arrays of an admission tell
 
-tells-by : (a : Admission) (nums : List ℤ) (dens : List ℕ) (scales : List Float) (ranks : List ℕ) (based : List Bool) → Pages a nums dens scales ranks based → (ks : List Facts) → known a ≡ given ks → (l : List Factor) → Lent (viewOf ks l) nums dens
-tells-by (admitted js) nums dens scales ranks based p ks e l =
-    let same : js ≡ ks = cc in
-    subst (λ ks. Lent (viewOf ks l) nums dens) same (lent-view js l nums dens scales ranks based p)
-tells-by (stopped r js) nums dens scales ranks based p ks e l = absurd (let z : _≡_ {A = ℕ} 0 1 = cc in omega arith)
-
--- the arrays of an admission
 pub tells-of : (t : Rows) (nums : List ℤ) (dens : List ℕ) (scales : List Float) (ranks : List ℕ) (based : List Bool) → Pages (admit t) nums dens scales ranks based → Tells t nums dens
-tells-of t nums dens scales ranks based p = tells-by (admit t) nums dens scales ranks based p
-
--- what they tell of the rows as a call sees them
-pub lent-of : (a b : Factors) (t : Rows) (o : Opening) → opening t a b ≡ given o → (nums : List ℤ) (dens : List ℕ) → Tells t nums dens → Lent (viewOf (o .rows) (o .first ++ o .second)) nums dens
-lent-of a b t o e nums dens tells = tells (o .rows) (made-of a b t o e .rows) (o .first ++ o .second)
+tells-of t nums dens scales ranks based p ks e l = record {
+  lent = lent-view ks l nums dens scales ranks based (subst (λ (a : Admission). Pages a nums dens scales ranks based) (admits t ks e) p);
+  short = view-short t ks e l;
+  few = slots-few (rowsOf t);
+}
 
 -- ---- the base rows
 
 pub slots-len : (s : Slots) (ss : List Slot) → s ≡ packSlots ss → s .len ≡ length ss
 unfolding packSlots
 slots-len s ss e = ap (λ (y : Slots). y .len) e
-
-pub bases-agree : (t : Rows) (ks : List Facts) (l : List Factor) (n : ℕ) → n ≡ length (baseRows t) → viewBases (viewOf ks l) n ≡ basesIn t ks
-bases-agree t ks l n e = ap (viewBases (viewOf ks l)) e ∙ view-bases ks l (length (baseRows t)) (slots-few (rowsOf t))

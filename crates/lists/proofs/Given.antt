@@ -1,6 +1,6 @@
 -- A resolved list's factors, taken out one by one: they are the list that was given.
 use mathlib.Core.Path.{_≡_, refl, sym, ap, ap₂, _∙_}
-use mathlib.Core.List.{List, [], _∷_, _++_, map, map-append}
+use mathlib.Core.List.{List, [], _∷_, map, map-append}
 use Prim.Native.Nat.{ℕ, _+_, _<_}
 use native.Mathlib.Numerals.{add-one}
 use native.Mathlib.Omega.{arith}
@@ -12,7 +12,7 @@ use Rattle.units.specs.Lists.{pack}
 use Rattle.units.proofs.Laws.{push-pack}
 use Rattle.tables.specs.declared.Item.{Item}
 use Rattle.tables.specs.declared.Items.{Items}
-use Rattle.tables.specs.Items.{View, itemOf, packItems}
+use Rattle.tables.specs.Held.{View, itemOf, packItems}
 use Rattle.canonical.proofs.Seen.{len-items, list-items}
 
 abbrev pub factorOf : Item → Factor

@@ -1,4 +1,4 @@
 pub mod Checks
 pub mod Given
-pub mod Views
 pub mod Ends
+pub mod Ready

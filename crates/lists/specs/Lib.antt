@@ -1,2 +1,2 @@
-pub mod Opening
 pub mod Calls
+pub mod Held

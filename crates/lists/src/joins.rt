@@ -2,9 +2,8 @@
 ghost use mathlib.Core.Path.{_≡_};
 ghost use Rattle.units.specs.declared.Rows.{Rows as Rowsᵛ};
 ghost use Rattle.units.specs.Lists.{madeOf};
-ghost use Rattle.tables.specs.Rows.{admit};
-ghost use Rattle.tables.specs.Pages.{admittedOf};
-ghost use Rattle.lists.specs.Opening.{baseRows};
+ghost use Rattle.tables.specs.Rows.{admit, baseRows};
+ghost use Rattle.tables.specs.Held.{admittedOf};
 ghost use Rattle.lists.specs.Calls as spec;
 use exponents::Exponent;
 use tables::Admitted;

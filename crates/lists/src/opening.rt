@@ -1,17 +1,14 @@
 // A table and two lists, checked in 01's order, and handed on as resolved lists.
 ghost use mathlib.Core.Path.{_≡_};
 ghost use mathlib.Core.List.{List};
-ghost use Prim.Native.Nat.{_≤_};
 ghost use lib.ListN.{length};
 ghost use Rattle.units.specs.declared.Factor.{Factor as Factorᵛ};
 ghost use Rattle.units.specs.Lists.{pack};
 ghost use Rattle.units.specs.declared.Rows.{Rows as Rowsᵛ};
-ghost use Rattle.tables.specs.Rows.{admit};
-ghost use Rattle.tables.specs.Pages.{Room, Blank, Pages, admittedOf};
-ghost use Rattle.tables.specs.Items.{View, packItems};
-ghost use Rattle.resolution.specs.Resolve.{noItems};
-ghost use Rattle.lists.specs.Opening as spec;
-ghost use Rattle.lists.specs.Opening.{Tells, baseRows, openedOf, unopened};
+ghost use Rattle.tables.specs.Rows.{admit, baseRows};
+ghost use Rattle.tables.specs.Held.{Room, Blank, admittedOf, View, noItems, Resolved, Admits};
+ghost use Rattle.lists.specs.Held as spec;
+ghost use Rattle.lists.specs.Held.{openedOf, unopened, Opens};
 use tables::Admitted;
 use tables::Items;
 use tables::Slots;
@@ -50,7 +47,7 @@ pub fn open_over(
     b: Factors,
 ) -> Opened
     requires { ⌜ Room (now nums) (now dens) (now scales) (now ranks) (now based) ⌝ }
-    ensures { λ r. ⌜ ((rows : Rowsᵛ) → t ≡ admittedOf (baseRows rows) (admit rows) → Pages (admit rows) (now (nums .entry)) (now (dens .entry)) (now (scales .entry)) (now (ranks .entry)) (now (based .entry)) → r ≡ openedOf (baseRows rows) (spec.opening rows a b)) ⌝ }
+    ensures { λ r. ⌜ ((rows : Rowsᵛ) → Admits rows t (now (nums .entry)) (now (dens .entry)) (now (scales .entry)) (now (ranks .entry)) (now (based .entry)) → r ≡ openedOf (baseRows rows) (spec.opening rows a b)) ⌝ }
 {
     let none = tables::no_items();
     if t.refusal != 0 {
@@ -93,7 +90,7 @@ pub fn admitted(rows: Rows) -> Admitted
 // A table and two lists, opened; the base exponents of the table's rows are left in two arrays, which have to be new.
 pub fn open_lists(rows: Rows, a: Factors, b: Factors, nums: &mut [i32], dens: &mut [u32]) -> Opened
     requires { ⌜ (length (now nums) ≡ 2048) × (length (now dens) ≡ 2048) × Blank 0 (now nums) (now dens) ⌝ }
-    ensures { λ r. ⌜ (r ≡ openedOf (baseRows rows) (spec.opening rows a b)) × Tells rows (now (nums .exit)) (now (dens .exit)) ⌝ }
+    ensures { λ r. ⌜ Opens rows a b r (now (nums .exit)) (now (dens .exit)) ⌝ }
 {
     let mut scales = [1.0; 128];
     let mut ranks = [0u16; 128];
@@ -104,7 +101,7 @@ pub fn open_lists(rows: Rows, a: Factors, b: Factors, nums: &mut [i32], dens: &m
 
 // The factors of a resolved list.
 pub fn factors_of(l: Items) -> Factors
-    ensures { λ r. ⌜ ((v : View) (fs : List Factorᵛ) → l ≡ packItems v fs → length fs ≤ 16 → r ≡ pack fs) ⌝ }
+    ensures { λ r. ⌜ ((v : View) (fs : List Factorᵛ) → Resolved v l fs → r ≡ pack fs) ⌝ }
 {
     let n = reduction::bases::capped(l.len);
     let mut o = units::lists::empty();

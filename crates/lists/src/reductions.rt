@@ -6,7 +6,7 @@ ghost use Rattle.units.specs.declared.Rows.{Rows as Rowsᵛ};
 ghost use Rattle.units.specs.Lists.{pack, madeOf};
 ghost use Rattle.reduction.specs.Multiple.{multipleIs};
 ghost use Rattle.reduction.specs.Reduction.{reducedOf};
-ghost use Rattle.lists.specs.Opening.{Tells, baseRows, opening, openedOf};
+ghost use Rattle.lists.specs.Held.{Opens};
 ghost use Rattle.lists.specs.Calls as spec;
 use super::opening::Opened;
 use reduction::multiples::Multiple;
@@ -17,7 +17,7 @@ use units::Rows;
 use units::lists::Made;
 
 pub fn reduce_list_over(o: Opened, nums: &[i32], dens: &[u32]) -> Reduced
-    ensures { λ r. ⌜ ((rows : Rowsᵛ) (l : Factorsᵛ) → o ≡ openedOf (baseRows rows) (opening rows l (pack [])) → Tells rows (now (nums .entry)) (now (dens .entry)) → r ≡ reducedOf (spec.reduction rows l)) ⌝ }
+    ensures { λ r. ⌜ ((rows : Rowsᵛ) (l : Factorsᵛ) → Opens rows l (pack []) o (now (nums .entry)) (now (dens .entry)) → r ≡ reducedOf (spec.reduction rows l)) ⌝ }
 {
     if o.refusal != 0 {
         return reduction::reduce::not_reduced(o.refusal);
@@ -39,7 +39,7 @@ pub fn reduce_list(rows: Rows, l: Factors) -> Reduced
 
 // The list itself, as it was given.
 pub fn smaller_unit_over(o: Opened, nums: &[i32], dens: &[u32]) -> Made
-    ensures { λ r. ⌜ ((rows : Rowsᵛ) (a b : Factorsᵛ) → o ≡ openedOf (baseRows rows) (opening rows a b) → Tells rows (now (nums .entry)) (now (dens .entry)) → r ≡ madeOf (spec.smallerUnit rows a b)) ⌝ }
+    ensures { λ r. ⌜ ((rows : Rowsᵛ) (a b : Factorsᵛ) → Opens rows a b o (now (nums .entry)) (now (dens .entry)) → r ≡ madeOf (spec.smallerUnit rows a b)) ⌝ }
 {
     if o.refusal != 0 {
         return units::lists::refused(o.refusal);
@@ -77,7 +77,7 @@ pub fn smaller_unit(rows: Rows, a: Factors, b: Factors) -> Made
 }
 
 pub fn is_multiple_of_over(o: Opened, nums: &[i32], dens: &[u32]) -> Multiple
-    ensures { λ r. ⌜ ((rows : Rowsᵛ) (a b : Factorsᵛ) → o ≡ openedOf (baseRows rows) (opening rows a b) → Tells rows (now (nums .entry)) (now (dens .entry)) → r ≡ multipleIs (spec.multiple rows a b)) ⌝ }
+    ensures { λ r. ⌜ ((rows : Rowsᵛ) (a b : Factorsᵛ) → Opens rows a b o (now (nums .entry)) (now (dens .entry)) → r ≡ multipleIs (spec.multiple rows a b)) ⌝ }
 {
     if o.refusal != 0 {
         return Multiple::Refused(o.refusal);

@@ -6,7 +6,7 @@ use Prim.Native.Nat.{ℕ}
 use native.Mathlib.Omega.{arith}
 use lib.IntN.{ℤ}
 use lib.Ieee.{Float, lt}
-use Rattle.exponents.specs.Outcome.{Outcome, given, refused, ZERONEG, unless, map, bind, each}
+use Rattle.exponents.specs.Outcome.{Outcome, given, refused, ZERONEG, unless, apply, bind, each}
 use Rattle.exponents.proofs.Holds.{bind-given}
 use Rattle.exponents.proofs.Numbers.{Refuses}
 use Rattle.floats.specs.Power.{power}
@@ -17,7 +17,8 @@ use Rattle.units.specs.Lists.{raised}
 use Rattle.lists.proofs.Ends.{bind-refuses}
 use Rattle.powers.specs.declared.whole.Whole.the-variants as whole
 use Rattle.values.specs.Quantities.{fresh}
-use Rattle.powers.specs.Whole.{zero, wholeExponent, wholeOf}
+use Rattle.powers.specs.Whole.{zero, wholeExponent}
+use Rattle.powers.specs.Held.{wholeOf}
 use Rattle.powers.specs.Powers.{over1, raisedTo}
 
 -- ---- a whole exponent read back
@@ -33,7 +34,7 @@ whole-refuses (refused r) n e = record { why = r; is = refl; numbered = cc }
 -- ---- the power
 module _ (v : Float) (fs : List Factor) (x : Float) where
   abbrev lifted : ℤ → Outcome Quantity
-  lifted n = map (fresh (power v n)) (each (raised (over1 n)) fs)
+  lifted n = apply (fresh (power v n)) (each (raised (over1 n)) fs)
 
   pub zero-negative : (isZero v && lt x zero) ≡ true → Refuses (raisedTo v fs x) 9
   unfolding raisedTo unless

@@ -16,7 +16,8 @@ use borrow.Author.Tests.{ltb-true, eqb-true, lt-ltb}
 use Rattle.exponents.proofs.Size.{mag-neg}
 use Rattle.exponents.specs.Outcome.{unless}
 use Rattle.powers.specs.declared.whole.Whole.the-variants.{Number, Refused}
-use Rattle.powers.specs.Whole.{most, least, isWhole, isBeyond, wholeExponent, wholeOf}
+use Rattle.powers.specs.Whole.{most, least, isWhole, isBeyond, wholeExponent}
+use Rattle.powers.specs.Held.{wholeOf}
 
 -- ---- how the code ends
 module _ (x : Float) where

@@ -5,13 +5,14 @@ use Rattle.exponents.specs.Outcome.{Outcome, bind}
 use Rattle.units.specs.declared.Quantity.{Quantity}
 use Rattle.units.specs.declared.Rows.{Rows}
 use Rattle.units.specs.Lists.{both}
-use Rattle.lists.specs.Opening.{table}
+use Rattle.tables.specs.Rows.{table}
+use Rattle.tables.specs.Rules.{rulesIn}
+use Rattle.conversion.specs.Conversion.{convert}
 use Rattle.powers.specs.Powers.{raisedTo}
-use Rattle.quantities.specs.Calls.{convertIn}
 
 module _ (t : Rows) where
   -- the exponent's conversion to scalar, ZERONEG, NONWHOLE, RANGE
   unfoldable pub checkedPower : Quantity → Quantity → Outcome Quantity
   checkedPower q p =
       bind (table t) (λ ks. bind (both (length ks) (q .unit) (p .unit)) (λ l.
-      bind (convertIn t ks (l .1) [] (p .value)) (λ x. raisedTo (q .value) (l .0) x)))
+      bind (convert (rulesIn t ks) (l .1) [] (p .value)) (λ x. raisedTo (q .value) (l .0) x)))

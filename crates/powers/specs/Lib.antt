@@ -1,3 +1,4 @@
 pub mod Whole
 pub mod Powers
 pub mod Calls
+pub mod Held

@@ -3,7 +3,7 @@ use mathlib.Core.Bool.{_&&_}
 use mathlib.Core.List.{List}
 use lib.IntN.{ℤ}
 use lib.Ieee.{Float, lt}
-use Rattle.exponents.specs.Outcome.{Outcome, ZERONEG, unless, map, bind, each}
+use Rattle.exponents.specs.Outcome.{Outcome, ZERONEG, unless, apply, bind, each}
 use Rattle.exponents.specs.declared.Exponent.{Exponent}
 use Rattle.floats.specs.Power.{power}
 use Rattle.floats.specs.Values.{isZero}
@@ -20,4 +20,4 @@ over1 n = record { num = n; den = 1 }
 unfoldable pub raisedTo : Float → List Factor → Float → Outcome Quantity
 raisedTo v fs x =
     unless (isZero v && lt x zero) ZERONEG
-    (bind (wholeExponent x) (λ n. map (λ l. fresh (power v n) l) (each (raised (over1 n)) fs)))
+    (bind (wholeExponent x) (λ n. apply (λ l. fresh (power v n) l) (each (raised (over1 n)) fs)))

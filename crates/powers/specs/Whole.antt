@@ -2,10 +2,8 @@
 use mathlib.Core.Bool.{Bool, not, _||_}
 use lib.IntN.{ℤ}
 use lib.Ieee.{Float, binary64, ofBits, rem, eq, le, toSigned}
-use Rattle.exponents.specs.Outcome.{Outcome, given, refused, NONWHOLE, RANGE, number, unless}
+use Rattle.exponents.specs.Outcome.{Outcome, given, NONWHOLE, RANGE, unless}
 use Rattle.floats.specs.Power.{one}
-use Rattle.powers.specs.declared.whole.Whole.{Whole}
-use Rattle.powers.specs.declared.whole.Whole.the-variants.{Number, Refused}
 
 abbrev pub zero : Float
 zero = ofBits binary64 0
@@ -26,8 +24,3 @@ isBeyond x = not (le x most) || not (le least x)
 
 unfoldable pub wholeExponent : Float → Outcome ℤ
 wholeExponent x = unless (not (isWhole x)) NONWHOLE (unless (isBeyond x) RANGE (given (toSigned 63 x)))
-
--- how code hands it over
-abbrev pub wholeOf : Outcome ℤ → Whole
-wholeOf (given n) = Number n
-wholeOf (refused r) = Refused (number r)

@@ -4,7 +4,7 @@ ghost use mathlib.Core.Path.{_≡_};
 ghost use Prim.Native.Nat.{_≤_};
 ghost use Rattle.units.specs.declared.Rows.{Rows as Rowsᵛ};
 ghost use Rattle.units.specs.Lists.{listOf};
-ghost use Rattle.lists.specs.Opening.{Tells, baseRows, opening, openedOf};
+ghost use Rattle.lists.specs.Held.{Opens};
 ghost use Rattle.values.specs.Quantities.{answeredOf};
 ghost use Rattle.powers.specs.Powers as powers;
 ghost use Rattle.powers.specs.Calls as spec;
@@ -47,7 +47,7 @@ fn raised_to(value: f64, l: Factors, x: f64) -> Answer
 
 // The exponent is a quantity: it is converted to the empty list first. Over the opened table and lists.
 pub fn checked_power_over(o: Opened, q: Quantity, p: Quantity, nums: &[i32], dens: &[u32]) -> Answer
-    ensures { λ r. ⌜ ((rows : Rowsᵛ) → o ≡ openedOf (baseRows rows) (opening rows (q .unit) (p .unit)) → Tells rows (now (nums .entry)) (now (dens .entry)) → r ≡ answeredOf (spec.checkedPower rows q p)) ⌝ }
+    ensures { λ r. ⌜ ((rows : Rowsᵛ) → Opens rows (q .unit) (p .unit) o (now (nums .entry)) (now (dens .entry)) → r ≡ answeredOf (spec.checkedPower rows q p)) ⌝ }
 {
     if o.refusal != 0 {
         return answers::refused(o.refusal);

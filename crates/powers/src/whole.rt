@@ -1,7 +1,7 @@
 // A value as a whole exponent (01, "The refusals"): NONWHOLE, then RANGE.
 ghost use mathlib.Core.Path.{_≡_};
 ghost use Rattle.powers.specs.Whole as spec;
-ghost use Rattle.powers.specs.Whole.{wholeOf};
+ghost use Rattle.powers.specs.Held.{wholeOf};
 use exponents::refusals::NONWHOLE;
 use exponents::refusals::RANGE;
 

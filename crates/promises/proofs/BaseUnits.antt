@@ -9,8 +9,10 @@ use lib.Dec.{eqb, ltb}
 use lib.IntN.{ℤ, pos}
 use lib.ListN.{length, getD, take}
 use borrow.Author.Tests.{ltb-true, ltb-false, eqb-false, eq-eqb, ne-eqb}
+use Rattle.exponents.specs.Words.{pick, All}
 use Rattle.exponents.specs.Outcome.{given, bind, each}
-use Rattle.exponents.specs.Fractions.{nought, unit, add?, mul?, sum?, worked}
+use Rattle.exponents.specs.Fractions.{nought, unit, add?, mul?, sum?}
+use Rattle.exponents.specs.Held.{worked}
 use Rattle.exponents.specs.declared.Exponent.{Exponent}
 use Rattle.exponents.proofs.Holds.{take-out, bind-given}
 use Rattle.exponents.proofs.InRange.{or-left, or-right}
@@ -22,16 +24,16 @@ use Rattle.units.specs.declared.Rows.{Rows}
 use Rattle.units.specs.Lists.{some, unknown}
 use Rattle.tables.specs.declared.Slot.{Slot}
 use Rattle.tables.specs.Lists.{baseAt, base}
-use Rattle.tables.specs.Rows.{pick, Facts, nobody, expAt, places, placed, slotted, slotsFrom, slots, isBase, count, kindFault, tableFault, defOf, selfExp, rowFacts, admitted, admitFrom, noSlot, rowsOf, admit}
-use Rattle.tables.proofs.Each.{all-imp}
+use Rattle.tables.specs.Rows.{Facts, nobody, expAt, places, placed, slotted, slotsFrom, slots, isBase, count, kindFault, tableFault, defOf, selfExp, rowFacts, admitted, admitFrom, rowsOf, admit, baseRows}
+use Rattle.tables.specs.Rules.{rulesIn}
+use Rattle.tables.specs.Held.{noSlot}
+use Rattle.exponents.proofs.Each.{all-imp}
 use Rattle.tables.proofs.Filled.{known, admit-on, admit-rows, table-length, row-known, base-exps}
-use Rattle.tables.proofs.Places.{All}
 use Rattle.tables.proofs.Placing.{slotted-room}
 use Rattle.tables.proofs.Slotting.{placed-long}
 use Rattle.tables.proofs.Terms.{get-map}
-use Rattle.canonical.proofs.Keeping.{pick-is, each-faultless}
-use Rattle.lists.specs.Opening.{baseRows}
-use Rattle.lists.specs.Calls.{basesIn}
+use Rattle.exponents.proofs.Words.{pick-is}
+use Rattle.canonical.proofs.Keeping.{each-faultless}
 use Rattle.simplification.proofs.Sounding.{every}
 use Rattle.registry.proofs.BaseSlots.{placed-all, slotted-all, slots-base}
 
@@ -244,7 +246,7 @@ module _ (t : Rows) (ks : List Facts) (a : admit t ≡ admitted ks) (d : Row) wh
   BaseUnit f = (f .row < length (rowsOf t)) × (getD (rowsOf t) (f .row) d .kind ≡ Base) × (f .exponent ≡ unit)
 
   -- it has 1 at itself, 0 at the others
-  pub base-unit-has : (f : Factor) → BaseUnit f → base (basesIn t ks) (f ∷ []) ≡ given (map (selfExp (f .row)) (baseRows t))
+  pub base-unit-has : (f : Factor) → BaseUnit f → base (rulesIn t ks .bases) (f ∷ []) ≡ given (map (selfExp (f .row)) (baseRows t))
   unfolding base expAt
   base-unit-has f u =
       bases-once f (u .2) (expAt ks) 0 (baseRows t) λ j h.
@@ -254,7 +256,7 @@ module _ (t : Rows) (ks : List Facts) (a : admit t ≡ admitted ks) (d : Row) wh
       ∙ get-map (selfExp (f .row)) (baseRows t) j noSlot nought h)
 
   -- the scalar has 0 at all
-  pub scalar-has : base (basesIn t ks) [] ≡ given (map (λ _. nought) (baseRows t))
+  pub scalar-has : base (rulesIn t ks .bases) [] ≡ given (map (λ _. nought) (baseRows t))
   unfolding base baseAt sum? each places
   scalar-has = go 0 (baseRows t)
     where

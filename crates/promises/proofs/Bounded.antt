@@ -1,15 +1,16 @@
 -- Every list that a call answers has at most 16 factors, each of which names one of a table's rows, its prefix and exponent in range.
 use mathlib.Core.Path.{_≡_}
-use mathlib.Core.Bool.{Bool, true, false}
+use mathlib.Core.Bool.{false}
 use mathlib.Core.List.{List, [], _∷_, _++_, map as along}
 use Prim.Native.Nat.{ℕ, _+_, _-_, _≤_, _<_}
 use native.Mathlib.Omega.{arith}
 use borrow.Author.Tests.{ltb-false}
 use lib.ListN.{length, length-append}
-use Rattle.exponents.specs.Outcome.{Outcome, given, ROOM, SHAPE, map, bind, each}
+use Rattle.exponents.specs.Words.{pick, All}
+use Rattle.exponents.specs.Outcome.{Outcome, given, ROOM, SHAPE, bind, each}
 use Rattle.exponents.specs.Fractions.{faulty}
 use Rattle.exponents.specs.declared.Exponent.{Exponent}
-use Rattle.exponents.proofs.Holds.{Holds, held, take-out, holds-any, holds-eq, holds-imp, holds-unless, holds-map, holds-bind}
+use Rattle.exponents.proofs.Holds.{holds-all, Holds, held, take-out, holds-eq, holds-imp, holds-unless, holds-map, holds-bind}
 use Rattle.exponents.proofs.InRange.{InRange, or-left, ranged-holds, sound, neg-in-range}
 use Rattle.units.specs.declared.Factor.{Factor}
 use Rattle.units.specs.declared.Factors.{Factors}
@@ -19,32 +20,22 @@ use Rattle.units.specs.Lists as units
 use Rattle.units.specs.Lists.{pack, factorFault, checked, both, joined, withExponent, inverted, raised}
 use Rattle.units.proofs.Sound.{exponent-sound}
 use Rattle.tables.specs.Lists.{base}
-use Rattle.tables.specs.Scale.{binary64, scale, sizeBy}
-use Rattle.tables.specs.Rows.{Facts, pick, scaleAt}
-use Rattle.tables.proofs.Each.{all-imp}
-use Rattle.tables.proofs.Places.{All}
-use Rattle.resolution.proofs.Keyed.{admit-keyed}
-use Rattle.canonical.specs.Order.{atom, of}
+use Rattle.tables.specs.Rows.{Facts, table, baseRows}
+use Rattle.tables.specs.Rules.{rulesIn, scaleBy}
+use Rattle.tables.specs.Order.{atom, of}
+use Rattle.exponents.proofs.Each.{all-imp}
+use Rattle.resolution.proofs.Keyed.{admits, admit-keyed}
+use Rattle.exponents.proofs.Words.{pick-is}
 use Rattle.canonical.proofs.Keeping.{all-append}
 use Rattle.reduction.specs.Reduction as reductions
 use Rattle.reduction.specs.Reduction.{reduced}
-use Rattle.lists.specs.Opening.{table, baseRows}
 use Rattle.lists.specs.Calls as lists
 use Rattle.values.specs.Calls as values
 use Rattle.targets.proofs.Within.{Within}
-use Rattle.simplification.specs.Rules.{rulesIn}
 use Rattle.simplification.proofs.Sounding.{Passes, row-known, checked-passed, canon-within}
-use Rattle.simplification.proofs.Kept.{admits}
 use Rattle.registry.proofs.BaseList.{base-list-checked}
 
 -- ---- the parts of a call
-
-pub either : {A : Type 0} (P : A → Type 0) (t : Bool) (a b : A) → P a → P b → P (pick t a b)
-either P true a b p q = p
-either P false a b p q = q
-
-pub mapped : {A B : Type 0} {P : B → Type 0} (f : A → B) (o : Outcome A) → ((a : A) → P (f a)) → Holds P (map f o)
-mapped f o h = holds-map f (holds-any o) λ a _. h a
 
 -- ---- factors
 
@@ -103,8 +94,8 @@ module _ (t : Rows) where
     both-bounds a b = holds-bind _ (checked-bounds a) λ fs h. holds-map _ (checked-bounds b) λ gs j. (h, j)
 
     -- the base factors pass that check
-    pub reduced-bounds : (l : List Factor) (es : List Exponent) → base (lists.basesIn t ks) l ≡ given es → Bounds (reduced (baseRows t) es)
-    reduced-bounds l es e = take-out (checked-bounds (pack (reduced (baseRows t) es))) (base-list-checked t es ks (lists.basesIn t ks) l (admits t ks k) e)
+    pub reduced-bounds : (l : List Factor) (es : List Exponent) → base (rulesIn t ks .bases) l ≡ given es → Bounds (reduced (baseRows t) es)
+    reduced-bounds l es e = take-out (checked-bounds (pack (reduced (baseRows t) es))) (base-list-checked t es ks (rulesIn t ks .bases) l (admits t ks k) e)
 
   module _ {A : Type 0} {P : A → Type 0} where
     pub of-one : (l : Factors) (W : List Facts → List Factor → Outcome A) → ((ks : List Facts) → table t ≡ given ks → (fs : List Factor) → Bounds fs → Holds P (W ks fs))
@@ -135,11 +126,11 @@ module _ (t : Rows) where
 
   pub reduction-bounds : (a : Factors) → Holds (λ p. Bounds (p .0)) (lists.reduction t a)
   unfolding lists.reduction reductions.reduction
-  reduction-bounds a = of-one a _ λ ks k fs h. holds-bind _ (holds-eq _) λ es e. mapped (λ s. (reduced (baseRows t) es, s)) (scale binary64 (sizeBy (scaleAt ks)) fs) λ s. reduced-bounds ks k fs es e
+  reduction-bounds a = of-one a _ λ ks k fs h. holds-bind _ (holds-eq _) λ es e. holds-all (λ s. (reduced (baseRows t) es, s)) (scaleBy (rulesIn t ks) fs) λ s. reduced-bounds ks k fs es e
 
   pub smaller-bounds : (a b : Factors) → Holds Bounds (lists.smallerUnit t a b)
   unfolding lists.smallerUnit
-  smaller-bounds a b = of-two a b _ λ ks fs gs h k. mapped (λ first. pick first fs gs) (reductions.smallerUnit (lists.basesIn t ks) (sizeBy (scaleAt ks)) fs gs) λ first. either Bounds first fs gs h k
+  smaller-bounds a b = of-two a b _ λ ks fs gs h k. holds-all (λ first. pick first fs gs) (reductions.smallerUnit (rulesIn t ks) fs gs) λ first. pick-is Bounds first {a = fs} {b = gs} h k
 
   -- a list of the table
   pub listed-bounds : (l : Factors) → Holds Bounds (values.listed t l)

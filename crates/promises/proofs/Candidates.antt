@@ -1,10 +1,11 @@
 -- What `full_simplify_with` answers (demand 3): in an admitted table a quantity with the base exponents of the given one, whatever the candidates. It is refused by RANGE and FRACTION alone once the candidates are taken, and whatever they are never by UNITS.
 use mathlib.Core.Path.{_≡_, sym, _∙_, subst}
-use mathlib.Core.Bool.{Bool, true, false}
+use mathlib.Core.Bool.{true, false}
 use mathlib.Core.List.{List, [], _∷_}
 use Prim.Native.Nat.{ℕ, suc}
 use lib.ListN.{length, take}
-use Rattle.exponents.specs.Outcome.{RANGE, FRACTION, Refusal, SHAPE, UNKNOWN, UNITS, given, refused, map, bind}
+use Rattle.exponents.specs.Words.{pick}
+use Rattle.exponents.specs.Outcome.{RANGE, FRACTION, Refusal, SHAPE, UNKNOWN, UNITS, given, refused, apply, bind}
 use Rattle.exponents.proofs.Holds.{Holds, Only, fine, holds-any, holds-imp, holds-map, holds-bind, only-map, only-bind, bind-given}
 use Rattle.exponents.proofs.Rationals.{value}
 use Rattle.floats.specs.Values.{isZero}
@@ -13,14 +14,12 @@ use Rattle.units.specs.declared.Candidate.{Candidate}
 use Rattle.units.specs.declared.Candidates.{Candidates}
 use Rattle.units.specs.declared.Quantity.{Quantity}
 use Rattle.units.specs.declared.Rows.{Rows}
-use Rattle.units.specs.Lists.{listOf, checked}
-use Rattle.tables.specs.Rows.{pick, Facts}
-use Rattle.canonical.proofs.Bases.{Agree}
-use Rattle.lists.specs.Opening.{table, baseRows}
-use Rattle.lists.specs.Calls.{basesIn}
-use Rattle.values.specs.Quantities.{made}
+use Rattle.units.specs.Lists.{checked}
+use Rattle.tables.specs.Rows.{Facts, table, baseRows}
+use Rattle.tables.specs.Rules.{rulesIn}
+use Rattle.exponents.proofs.Words.{pick-is}
 use Rattle.conversion.proofs.Refusals.{range-not-units}
-use Rattle.simplification.specs.Rules.{rulesIn}
+use Rattle.values.specs.Quantities.{made}
 use Rattle.simplification.specs.Steps.{quantityOf, simplify}
 use Rattle.simplification.proofs.Agreed.{agree-trans}
 use Rattle.simplification.proofs.NeverUnits.{NotUnits, never, fraction-not-units, either-only}
@@ -28,7 +27,7 @@ use Rattle.simplification.proofs.Kept.{simplify-only-in, simplified-keeps}
 use Rattle.registry.specs.Registry.{listsFrom, candidateLists, registered}
 use Rattle.registry.specs.Calls.{fullSimplifyWith}
 use Rattle.registry.proofs.Upheld.{registered-keeps, registered-only}
-use Rattle.promises.proofs.Simplification.{made-keeps, same, shape-not-units, unknown-not-units, table-not-units, list-not-units}
+use Rattle.promises.proofs.Simplification.{KeepsBase, made-keeps, same, shape-not-units, unknown-not-units, table-not-units, list-not-units}
 use Rattle.promises.proofs.Unadmitted.{unless-only, checked-only}
 
 -- ---- candidates are refused by SHAPE and UNKNOWN only
@@ -45,22 +44,19 @@ module _ (S : Refusal → Type 0) (shape : S SHAPE) (un : S UNKNOWN) (rows : ℕ
 -- q is a quantity of the admitted table t, fs its list
 module _ (t : Rows) (ks : List Facts) (k : table t ≡ given ks) (q : Quantity) (fs : List Factor) (h : checked (length ks) (q .unit) ≡ given fs) (c : Candidates) where
   goes : fullSimplifyWith t q c ≡ bind (candidateLists (length ks) c) (λ ms.
-      pick (q .mark) (map quantityOf (bind (simplify (rulesIn t ks) (q .value) fs) (registered (rulesIn t ks) (baseRows t) ms))) (given (made false (q .value) fs)))
+      pick (q .mark) (apply quantityOf (bind (simplify (rulesIn t ks) (q .value) fs) (registered (rulesIn t ks) (baseRows t) ms))) (given (made false (q .value) fs)))
   unfolding fullSimplifyWith
   goes = bind-given _ k ∙ bind-given _ h
 
   -- THEOREM: full simplification of a nonzero value with candidates, if it answers, keeps base exponents
-  pub keeps-base : isZero (q .value) ≡ false → Holds (λ p. Agree value (basesIn t ks) fs (listOf (p .unit))) (fullSimplifyWith t q c)
-  keeps-base n = subst (λ o. Holds (λ (p : Quantity). Agree value (basesIn t ks) fs (listOf (p .unit))) o) (sym goes) (holds-bind _ (holds-any (candidateLists (length ks) c)) λ ms _. either ms (q .mark))
-    where
-      either : (ms : List (List Factor)) (b : Bool) →
-          Holds (λ p. Agree value (basesIn t ks) fs (listOf (p .unit)))
-          (pick b (map quantityOf (bind (simplify (rulesIn t ks) (q .value) fs) (registered (rulesIn t ks) (baseRows t) ms))) (given (made false (q .value) fs)))
-      either ms true =
-          holds-map quantityOf
-          (holds-bind _ (simplified-keeps t ks k (q .unit) fs h (q .value) n) λ a e. holds-imp (registered-keeps t ks k ms a) λ b r. agree-trans value (basesIn t ks) fs (a .1) (b .1) e r)
-          λ b r. made-keeps t ks k q fs h true (b .0) (b .1) r
-      either ms false = same t ks k q fs h
+  pub keeps-base : isZero (q .value) ≡ false → Holds (KeepsBase t ks k q fs h) (fullSimplifyWith t q c)
+  keeps-base n =
+      subst (λ o. Holds (KeepsBase t ks k q fs h) o) (sym goes)
+      (holds-bind _ (holds-any (candidateLists (length ks) c)) λ ms _. pick-is (Holds (KeepsBase t ks k q fs h)) (q .mark)
+      (holds-map quantityOf
+      (holds-bind _ (simplified-keeps t ks k (q .unit) fs h (q .value) n) λ a e. holds-imp (registered-keeps t ks k ms a) λ b r. agree-trans value (rulesIn t ks .bases) fs (a .1) (b .1) e r)
+      λ b r. made-keeps t ks k q fs h true (b .0) (b .1) r)
+      (same t ks k q fs h))
 
   -- THEOREM: with candidates that are taken it answers, or is refused by RANGE or FRACTION
   pub refuses : (ms : List (List Factor)) → candidateLists (length ks) c ≡ given ms → (S : Refusal → Type 0) → S RANGE → S FRACTION → Only S (fullSimplifyWith t q c)

@@ -7,7 +7,7 @@ use Prim.Native.Nat.{ℕ}
 use native.Mathlib.Omega.{arith}
 use lib.Ieee.{Float}
 use lib.ListN.{length}
-use Rattle.exponents.specs.Outcome.{Refusal, RANGE, UNITS, Outcome, given, refused, map}
+use Rattle.exponents.specs.Outcome.{Refusal, RANGE, UNITS, Outcome, given, refused, apply}
 use Rattle.exponents.specs.declared.Exponent.{Exponent}
 use Rattle.exponents.proofs.Holds.{bind-given}
 use Rattle.exponents.proofs.Rationals.{value}
@@ -16,23 +16,21 @@ use Rattle.units.specs.declared.Factors.{Factors}
 use Rattle.units.specs.declared.Quantity.{Quantity}
 use Rattle.units.specs.declared.Rows.{Rows}
 use Rattle.units.specs.Lists.{both}
-use Rattle.tables.specs.Scale.{binary64, sizeBy}
-use Rattle.tables.specs.Rows.{Facts, scaleAt}
-use Rattle.canonical.specs.Order.{orderIn}
+use Rattle.tables.specs.Rows.{Facts, table}
+use Rattle.tables.specs.Rules.{Rules, rulesIn}
 use Rattle.canonical.proofs.Bases.{Agree}
 use Rattle.canonical.proofs.Total.{orderIn-total}
-use Rattle.lists.specs.Opening.{table}
-use Rattle.lists.specs.Calls.{basesIn}
 use Rattle.common.specs.Common.{common, over}
+use Rattle.conversion.specs.Conversion.{convert}
 use Rattle.conversion.specs.Fractional.{fractional}
 use Rattle.conversion.proofs.Refusals.{Fraction, fraction, worked}
 use Rattle.conversion.proofs.Cases as cases
 use Rattle.conversion.proofs.Faithful as laws
 use Rattle.values.specs.Quantities.{fresh}
-use Rattle.quantities.specs.Calls.{convertIn, convertTo}
+use Rattle.quantities.specs.Calls.{convertTo}
 
 -- a refusal goes through, and nothing else gives one
-map-refused : {A B : Type 0} (f : A → B) (o : Outcome A) (r : Refusal) → (map f o ≡ refused r) ↔ (o ≡ refused r)
+map-refused : {A B : Type 0} (f : A → B) (o : Outcome A) (r : Refusal) → (apply f o ≡ refused r) ↔ (o ≡ refused r)
 map-refused f (given a) r = (λ e. absurd (let z : _≡_ {A = ℕ} 0 1 = cc in omega arith), λ e. absurd (let z : _≡_ {A = ℕ} 0 1 = cc in omega arith))
 map-refused f (refused s) r = (λ e. let z : s ≡ r = cc in ap refused z, λ e. let z : s ≡ r = cc in ap refused z)
 
@@ -44,45 +42,49 @@ module _ (t : Rows) (ks : List Facts) (k : table t ≡ given ks) (q : Quantity) 
   abbrev pub inTarget : Float → Quantity
   inTarget v = fresh v gs
 
+  -- the table's rules
+  abbrev rules : Rules Float
+  rules = rulesIn t ks
+
   -- the value is converted; the list is the target's
-  goes : convertTo t q m ≡ map inTarget (convertIn t ks fs gs (q .value))
+  goes : convertTo t q m ≡ apply inTarget (convert rules fs gs (q .value))
   unfolding convertTo
   goes = bind-given _ k ∙ bind-given _ h
 
   -- the five cases
   abbrev pub Case : Type 0
-  Case = cases.Case (orderIn ks) (basesIn t ks) value binary64 (sizeBy (scaleAt ks)) fs gs (q .value)
+  Case = cases.Case rules value fs gs (q .value)
 
   -- one of them holds
   pub case : Case
-  case = laws.case (orderIn ks) (basesIn t ks) value (orderIn-total ks) binary64 (sizeBy (scaleAt ks)) fs gs (q .value)
+  case = laws.case rules value (orderIn-total ks) fs gs (q .value)
 
   -- and `convert_to` is right in each
-  pub converts : (c : Case) → convertTo t q m ≡ map inTarget (cases.answer (orderIn ks) (basesIn t ks) value binary64 (sizeBy (scaleAt ks)) c)
-  converts c = goes ∙ ap (map inTarget) (laws.faithful (orderIn ks) (basesIn t ks) value (orderIn-total ks) binary64 (sizeBy (scaleAt ks)) fs gs (q .value) c)
+  pub converts : (c : Case) → convertTo t q m ≡ apply inTarget (cases.answer rules value c)
+  converts c = goes ∙ ap (apply inTarget) (laws.faithful rules value (orderIn-total ks) fs gs (q .value) c)
 
-  refuses : (r : Refusal) → (convertTo t q m ≡ refused r) ↔ (convertIn t ks fs gs (q .value) ≡ refused r)
-  refuses r = through (λ e. sym goes ∙ e, λ e. goes ∙ e) (map-refused inTarget (convertIn t ks fs gs (q .value)) r)
+  refuses : (r : Refusal) → (convertTo t q m ≡ refused r) ↔ (convert rules fs gs (q .value) ≡ refused r)
+  refuses r = through (λ e. sym goes ∙ e, λ e. goes ∙ e) (map-refused inTarget (convert rules fs gs (q .value)) r)
 
   -- RANGE exactly where one of the five ranged steps refuses
-  pub range-exactly : (convertTo t q m ≡ refused RANGE) ↔ cases.Stopped (orderIn ks) (basesIn t ks) value binary64 (sizeBy (scaleAt ks)) fs gs (q .value) RANGE
-  range-exactly = through (refuses RANGE) (laws.range-exactly (orderIn ks) (basesIn t ks) value (orderIn-total ks) binary64 (sizeBy (scaleAt ks)) fs gs (q .value))
+  pub range-exactly : (convertTo t q m ≡ refused RANGE) ↔ cases.Stopped rules value fs gs (q .value) RANGE
+  range-exactly = through (refuses RANGE) (laws.range-exactly rules value (orderIn-total ks) fs gs (q .value))
 
   -- the value is nonzero, the lists are unequal, and all five steps answer
-  module _ {cl cm l : List Factor} {x y : List Exponent} (s : cases.Reduced (orderIn ks) (basesIn t ks) value binary64 (sizeBy (scaleAt ks)) fs gs (q .value) cl cm x l y) where
+  module _ {cl cm l : List Factor} {x y : List Exponent} (s : cases.Reduced rules value fs gs (q .value) cl cm x l y) where
     -- UNITS exactly where the base exponents of the two lists differ
-    pub units-exactly : (convertTo t q m ≡ refused UNITS) ↔ (Agree value (basesIn t ks) fs gs → ⊥)
-    units-exactly = through (refuses UNITS) (laws.units-exactly (orderIn ks) (basesIn t ks) value (orderIn-total ks) binary64 (sizeBy (scaleAt ks)) fs gs (q .value) s)
+    pub units-exactly : (convertTo t q m ≡ refused UNITS) ↔ (Agree value (rules .bases) fs gs → ⊥)
+    units-exactly = through (refuses UNITS) (laws.units-exactly rules value (orderIn-total ks) fs gs (q .value) s)
 
-    mapped : {b : Bool} {o : Outcome Float} → Fraction b o → Fraction b (map inTarget o)
+    mapped : {b : Bool} {o : Outcome Float} → Fraction b o → Fraction b (apply inTarget o)
     mapped fraction = fraction
     mapped worked = worked
 
     -- a scale has no value
     abbrev pub broken : Bool
-    broken = fractional binary64 (sizeBy (scaleAt ks)) (over fs (common (orderIn ks) cl cm)) || fractional binary64 (sizeBy (scaleAt ks)) l
+    broken = fractional rules (over fs (common (rules .order) cl cm)) || fractional rules l
 
     -- where they agree it answers, or is FRACTION exactly where a size other than 1 meets an exponent that isn't whole
-    pub fraction-exactly : Agree value (basesIn t ks) fs gs → Fraction broken (convertTo t q m)
+    pub fraction-exactly : Agree value (rules .bases) fs gs → Fraction broken (convertTo t q m)
     fraction-exactly a =
-        subst (λ o. Fraction broken o) (sym goes) (mapped (laws.fraction-exactly (orderIn ks) (basesIn t ks) value (orderIn-total ks) binary64 (sizeBy (scaleAt ks)) fs gs (q .value) s a))
+        subst (λ o. Fraction broken o) (sym goes) (mapped (laws.fraction-exactly rules value (orderIn-total ks) fs gs (q .value) s a))

@@ -2,7 +2,7 @@
 use mathlib.Core.Path.{_≡_}
 use mathlib.Core.Bool.{Bool, true, false}
 use mathlib.Core.List.{List, _++_, map as along}
-use Prim.Native.Nat.{ℕ, _≤_, _<_, Ordering}
+use Prim.Native.Nat.{ℕ, _≤_, _<_}
 use native.Mathlib.Omega.{arith}
 use borrow.Author.Tests.{ltb-false}
 use lib.Dec.{eqb}
@@ -11,14 +11,16 @@ use lib.Signed.{mag, ltZ}
 use lib.Ieee.{Float, binary64, neg}
 use lib.Ieee.Fits as ieee
 use lib.ListN.{length}
-use Rattle.exponents.specs.Outcome.{Outcome, given, DIVZERO, ZERONEG, map}
+use Rattle.exponents.specs.Words.{pick}
+use Rattle.exponents.specs.Outcome.{Outcome, given, DIVZERO, ZERONEG, apply}
 use Rattle.exponents.specs.Fractions.{most}
 use Rattle.exponents.specs.declared.Exponent.{Exponent}
-use Rattle.exponents.proofs.Holds.{Holds, held, holds-any, holds-imp, holds-both, holds-unless, holds-map, holds-bind}
+use Rattle.exponents.proofs.Holds.{holds-all, Holds, held, holds-any, holds-imp, holds-both, holds-unless, holds-map, holds-bind}
 use Rattle.exponents.proofs.InRange.{InRange, or-left, sound}
 use Rattle.floats.specs.Values.{isZero}
 use Rattle.floats.proofs.Laws as floats
 use Rattle.floats.proofs.Patterns.{bits-fit}
+use Rattle.floats.proofs.Laws.{abs-fits}
 use Rattle.units.specs.declared.Candidates.{Candidates}
 use Rattle.units.specs.declared.Factor.{Factor}
 use Rattle.units.specs.declared.Factors.{Factors}
@@ -28,14 +30,12 @@ use Rattle.units.specs.declared.Quantity.{Quantity}
 use Rattle.units.specs.declared.Rows.{Rows}
 use Rattle.units.specs.Prefixes.{numberFault, prefixFault}
 use Rattle.units.specs.Lists.{pack, inverted}
-use Rattle.tables.specs.Scale as scales
-use Rattle.tables.specs.Scale.{sizeBy}
-use Rattle.tables.specs.Rows.{pick, scaleAt}
-use Rattle.tables.proofs.Each.{all-imp}
-use Rattle.canonical.specs.Order.{Atom, orderIn}
+use Rattle.tables.specs.Rows.{Facts, baseRows}
+use Rattle.tables.specs.Rules.{Rules, rulesIn}
+use Rattle.exponents.proofs.Each.{all-imp}
+use Rattle.exponents.proofs.Words.{pick-is}
 use Rattle.reduction.specs.Multiple.{Maybe, times, none}
 use Rattle.reduction.specs.Reduction as reductions
-use Rattle.lists.specs.Opening.{baseRows}
 use Rattle.lists.specs.Calls as lists
 use Rattle.conversion.specs.Conversion.{convert}
 use Rattle.values.specs.Quantities.{made, fresh}
@@ -46,7 +46,6 @@ use Rattle.sums.specs.Calls as sums
 use Rattle.powers.specs.Powers.{over1, raisedTo}
 use Rattle.powers.specs.Calls as powers
 use Rattle.targets.proofs.Within.{Fine, is-fine}
-use Rattle.simplification.specs.Rules.{Rules, rulesIn, convertBy}
 use Rattle.simplification.specs.Steps.{Amount, quantityOf, simplify}
 use Rattle.simplification.specs.Calls as simplification
 use Rattle.simplification.proofs.Sounding.{simplify-within}
@@ -57,8 +56,8 @@ use Rattle.wire.specs.Arguments.{badQuantity, quantityFrom}
 use Rattle.wire.proofs.Round.{ExponentFits, PrefixFits, FactorFits, ListFits, QuantityFits, quantity-form}
 use Rattle.wire.proofs.Back.{pack-fits}
 use Rattle.replies.proofs.Back.{MultipleFits}
-use Rattle.promises.proofs.Bounded.{either, mapped, Bounded, Bounds, still-bounded, joined-bounds, inverted-bounded, raised-bounds, checked-bounds, reduced-bounds, of-one, of-two, product-bounds, quotient-bounds, power-bounds, canonical-bounds, reduction-bounds, smaller-bounds, listed-bounds}
-use Rattle.promises.proofs.Rounded.{ValueFits, abs-value, combined-value, scale-value, convert-value, convert-by, simplify-value}
+use Rattle.promises.proofs.Bounded.{Bounded, Bounds, still-bounded, joined-bounds, inverted-bounded, raised-bounds, checked-bounds, reduced-bounds, of-one, of-two, product-bounds, quotient-bounds, power-bounds, canonical-bounds, reduction-bounds, smaller-bounds, listed-bounds}
+use Rattle.promises.proofs.Rounded.{ValueFits, combined-value, scale-value, convert-value, simplify-value}
 
 -- ---- a factor whose numbers are in range
 
@@ -88,25 +87,25 @@ list-fits fs h = pack-fits fs (all-imp fs factor-fits (h .1)) (h .0)
 abbrev AmountFits : Amount → Type 0
 AmountFits a = ValueFits (a .0) × Bounds (a .1)
 
-simplify-amount : (R : Rules) (v : Float) (l : List Factor) → ValueFits v → Bounds l → Holds AmountFits (simplify R v l)
-simplify-amount R v l h b = holds-both (simplify-value R v l h) (simplify-within Bounded still-bounded R 16 v l b)
+simplify-amount : (t : Rows) (ks : List Facts) (v : Float) (l : List Factor) → ValueFits v → Bounds l → Holds AmountFits (simplify (rulesIn t ks) v l)
+simplify-amount t ks v l h b = holds-both (simplify-value t ks v l h) (simplify-within Bounded still-bounded (rulesIn t ks) 16 v l b)
 
 made-fits : (mark : Bool) (v : Float) (fs : List Factor) → ValueFits v → Bounds fs → QuantityFits (made mark v fs)
 made-fits mark v fs h b = record { value = h; unit = list-fits fs b }
 
-all-made : (mark : Bool) (v : Float) {o : Outcome (List Factor)} → ValueFits v → Holds Bounds o → Holds QuantityFits (map (made mark v) o)
+all-made : (mark : Bool) (v : Float) {o : Outcome (List Factor)} → ValueFits v → Holds Bounds o → Holds QuantityFits (apply (made mark v) o)
 all-made mark v h b = holds-map _ b λ fs. made-fits mark v fs h
 
-amounts-fit : {o : Outcome Amount} → Holds AmountFits o → Holds QuantityFits (map quantityOf o)
+amounts-fit : {o : Outcome Amount} → Holds AmountFits o → Holds QuantityFits (apply quantityOf o)
 amounts-fit h = holds-map _ h λ a p. made-fits true (a .0) (a .1) (p .0) (p .1)
 
 -- the sum of two nonzero values
-sum-fits : (cmp : Atom → Atom → Ordering) (bs : List (ℕ → Exponent)) (size : Factor → Float) (minus : Bool) (x y : Float) (fs gs : List Factor) → Bounds fs → Bounds gs → Holds QuantityFits (nonzeroSum cmp bs size minus x y fs gs)
+sum-fits : (R : Rules Float) (minus : Bool) (x y : Float) (fs gs : List Factor) → Bounds fs → Bounds gs → Holds QuantityFits (nonzeroSum R minus x y fs gs)
 unfolding nonzeroSum together
-sum-fits cmp bs size minus x y fs gs h k =
-    holds-bind _ (holds-any _) λ same _. either (Holds QuantityFits) same (given (fresh (combined minus x y) fs)) _ (held (made-fits true _ fs (combined-value minus x y) h))
+sum-fits R minus x y fs gs h k =
+    holds-bind _ (holds-any _) λ same _. pick-is (Holds QuantityFits) same {a = given (fresh (combined minus x y) fs)} (held (made-fits true _ fs (combined-value minus x y) h))
     (holds-bind _ (holds-any _) λ first _. holds-bind _ (holds-any _) λ a _.
-    mapped _ (convert cmp bs scales.binary64 size gs (pick first fs gs) y) λ b. made-fits true _ (pick first fs gs) (combined-value minus a b) (either Bounds first fs gs h k))
+    holds-all _ (convert R gs (pick first fs gs) y) λ b. made-fits true _ (pick first fs gs) (combined-value minus a b) (pick-is Bounds first {a = fs} {b = gs} h k))
 
 -- ---- the calls on quantities
 
@@ -122,7 +121,7 @@ module _ (t : Rows) (q : Quantity) where
 
     pub magnitude-fits : Holds QuantityFits (values.magnitude t q)
     unfolding values.magnitude
-    magnitude-fits = all-made true _ (abs-value (q .value) v) (listed-bounds t (q .unit))
+    magnitude-fits = all-made true _ (abs-fits (q .value) v) (listed-bounds t (q .unit))
 
     pub unmarked-fits : Holds QuantityFits (values.noSimplify t q)
     unfolding values.noSimplify
@@ -130,19 +129,19 @@ module _ (t : Rows) (q : Quantity) where
 
     pub convert-fits : (m : Factors) → Holds QuantityFits (quantities.convertTo t q m)
     unfolding quantities.convertTo
-    convert-fits m = of-two t (q .unit) m _ λ ks fs gs h k. holds-map _ (convert-value (orderIn ks) (lists.basesIn t ks) (sizeBy (scaleAt ks)) fs gs (q .value) v) λ x f. made-fits true x gs f k
+    convert-fits m = of-two t (q .unit) m _ λ ks fs gs h k. holds-map _ (convert-value t ks fs gs (q .value) v) λ x f. made-fits true x gs f k
 
     pub simplify-fits : Holds QuantityFits (simplification.fullSimplify t q)
     unfolding simplification.fullSimplify
     simplify-fits = of-one t (q .unit) _ λ ks k fs h.
-        either (Holds QuantityFits) (q .mark) _ (given (made false (q .value) fs)) (amounts-fit (simplify-amount (rulesIn t ks) (q .value) fs v h)) (held (made-fits false (q .value) fs v h))
+        pick-is (Holds QuantityFits) (q .mark) {b = given (made false (q .value) fs)} (amounts-fit (simplify-amount t ks (q .value) fs v h)) (held (made-fits false (q .value) fs v h))
 
     pub with-fits : (c : Candidates) → Holds QuantityFits (registry.fullSimplifyWith t q c)
     unfolding registry.fullSimplifyWith
     with-fits c = of-one t (q .unit) _ λ ks k fs h. holds-bind _ (candidates-all Bounds (length ks) (checked-bounds t ks k) c) λ ms b.
-        either (Holds QuantityFits) (q .mark) _ (given (made false (q .value) fs))
-        (amounts-fit (holds-bind _ (simplify-amount (rulesIn t ks) (q .value) fs v h) λ a j.
-        let to : (m : List Factor) → Bounds m → Holds (λ x. AmountFits (x, m)) (convertBy (rulesIn t ks) (a .1) m (a .0)) = λ m i. holds-imp (convert-by (rulesIn t ks) (a .1) m (a .0) (j .0)) λ x f. (f, i) in
+        pick-is (Holds QuantityFits) (q .mark) {b = given (made false (q .value) fs)}
+        (amounts-fit (holds-bind _ (simplify-amount t ks (q .value) fs v h) λ a j.
+        let to : (m : List Factor) → Bounds m → Holds (λ x. AmountFits (x, m)) (convert (rulesIn t ks) (a .1) m (a .0)) = λ m i. holds-imp (convert-value t ks (a .1) m (a .0) (j .0)) λ x f. (f, i) in
         registered-any (rulesIn t ks) a AmountFits (baseRows t) ms j (λ xs e. to _ (reduced-bounds t ks k (a .1) xs e)) (all-imp ms to b)))
         (held (made-fits false (q .value) fs v h))
 
@@ -164,9 +163,9 @@ module _ (t : Rows) (q : Quantity) where
       summed-fits : (minus : Bool) (lead : List Factor → Quantity) → ((fs : List Factor) → Bounds fs → QuantityFits (lead fs)) → Holds QuantityFits (sums.summed t minus lead q p)
       unfolding sums.summed
       summed-fits minus lead f = of-two t (q .unit) (p .unit) _ λ ks fs gs h k.
-          either (Holds QuantityFits) (isZero (q .value)) (given (lead gs)) _ (held (f gs k))
-          (either (Holds QuantityFits) (isZero (p .value)) (given (made (q .mark) (q .value) fs)) _ (held (made-fits (q .mark) (q .value) fs v h))
-          (sum-fits (orderIn ks) (lists.basesIn t ks) (sizeBy (scaleAt ks)) minus (q .value) (p .value) fs gs h k))
+          pick-is (Holds QuantityFits) (isZero (q .value)) {a = given (lead gs)} (held (f gs k))
+          (pick-is (Holds QuantityFits) (isZero (p .value)) {a = given (made (q .mark) (q .value) fs)} (held (made-fits (q .mark) (q .value) fs v h))
+          (sum-fits (rulesIn t ks) minus (q .value) (p .value) fs gs h k))
 
       pub add-fits : Holds QuantityFits (sums.add t q p)
       unfolding sums.add
@@ -191,7 +190,7 @@ module _ (t : Rows) (a : Factors) where
 
   scale-fits : Holds (λ p. ValueFits (p .1)) (lists.reduction t a)
   unfolding lists.reduction reductions.reduction
-  scale-fits = holds-bind _ (holds-any _) λ ks _. holds-bind _ (holds-any _) λ fs _. holds-bind _ (holds-any _) λ es _. holds-map _ (scale-value (sizeBy (scaleAt ks)) fs) λ s f. f
+  scale-fits = holds-bind _ (holds-any _) λ ks _. holds-bind _ (holds-any _) λ fs _. holds-bind _ (holds-any _) λ es _. holds-map _ (scale-value t ks fs) λ s f. f
 
   pub reduction-fits : Holds (λ p. ListFits (pack (p .0)) × ValueFits (p .1)) (lists.reduction t a)
   reduction-fits = holds-both (holds-imp (reduction-bounds t a) λ p. list-fits (p .0)) scale-fits
@@ -208,7 +207,7 @@ module _ (t : Rows) (a : Factors) where
 
     pub multiple-fits : Holds MultipleFits (lists.multiple t a b)
     unfolding lists.multiple
-    multiple-fits = of-two t a b _ λ ks fs gs h k. holds-imp (is-fine (lists.basesIn t ks) fs gs) fine-fits
+    multiple-fits = of-two t a b _ λ ks fs gs h k. holds-imp (is-fine (rulesIn t ks .bases) fs gs) fine-fits
 
 -- ---- written and read
 
@@ -219,4 +218,4 @@ read-back q h s = quantity-form .back q s h
 -- a quantity read has a value that fits, so that no call on bytes has to ask for it
 pub read-fits : (s : List ℕ) → ValueFits (quantityFrom s .value)
 unfolding quantityFrom quantityAt
-read-fits s = either (λ q. ValueFits (q .value)) (eqb (length s) 336) (quantityAt s 0) badQuantity (bits-fit _) (bits-fit 0)
+read-fits s = pick-is (λ q. ValueFits (q .value)) (eqb (length s) 336) {a = quantityAt s 0} {b = badQuantity} (bits-fit _) (bits-fit 0)

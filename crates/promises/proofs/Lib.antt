@@ -14,5 +14,7 @@ pub mod Bounded
 pub mod Rounded
 pub mod Fitting
 pub mod Sizes
+pub mod Contents
+pub mod Misread
 pub mod Shipped
 pub mod Shipping

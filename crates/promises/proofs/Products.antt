@@ -9,7 +9,7 @@ use lib.Dec.{ltb}
 use lib.IntN.{ℤ}
 use lib.Ieee.{Float, binary64, mul, div, lt}
 use lib.ListN.{length, length-map}
-use Rattle.exponents.specs.Outcome.{Outcome, given, SHAPE, ROOM, DIVZERO, ZERONEG, unless, map, bind, each}
+use Rattle.exponents.specs.Outcome.{Outcome, given, SHAPE, ROOM, DIVZERO, ZERONEG, unless, apply, bind, each}
 use Rattle.exponents.specs.Fractions.{faulty}
 use Rattle.exponents.specs.declared.Exponent.{Exponent}
 use Rattle.exponents.proofs.Holds.{bind-given}
@@ -21,12 +21,12 @@ use Rattle.units.specs.declared.Quantity.{Quantity}
 use Rattle.units.specs.declared.Rows.{Rows}
 use Rattle.units.specs.Lists as units
 use Rattle.units.specs.Lists.{checked, both, joined, inverted, raised}
-use Rattle.tables.specs.Rows.{Facts}
-use Rattle.lists.specs.Opening.{table}
+use Rattle.tables.specs.Rows.{Facts, table}
+use Rattle.tables.specs.Rules.{rulesIn}
 use Rattle.lists.specs.Calls as lists
+use Rattle.conversion.specs.Conversion.{convert}
 use Rattle.values.specs.Quantities.{fresh}
 use Rattle.values.specs.Calls.{multiply, checkedDiv}
-use Rattle.quantities.specs.Calls.{convertIn}
 use Rattle.quantities.proofs.Converting.{fault-passes}
 use Rattle.powers.specs.Whole.{zero, wholeExponent}
 use Rattle.powers.specs.Powers.{over1, raisedTo}
@@ -67,22 +67,22 @@ module _ (t : Rows) (ks : List Facts) (k : table t ≡ given ks) where
   module _ (q p : Quantity) (fs gs : List Factor) (h : both (length ks) (q .unit) (p .unit) ≡ given (fs, gs)) where
     pub multiplies : Room fs gs → multiply t q p ≡ given (fresh (mul binary64 (q .value) (p .value)) (fs ++ gs))
     unfolding multiply
-    multiplies r = ap (map (fresh (mul binary64 (q .value) (p .value)))) (joins (q .unit) (p .unit) fs gs h r)
+    multiplies r = ap (apply (fresh (mul binary64 (q .value) (p .value)))) (joins (q .unit) (p .unit) fs gs h r)
 
     pub divides : isZero (p .value) ≡ false → Room fs gs → checkedDiv t q p ≡ given (fresh (div binary64 (q .value) (p .value)) (fs ++ along inverted gs))
     unfolding checkedDiv
     divides z r =
-        goes (q .unit) (p .unit) fs gs h (λ ks l m. unless (isZero (p .value)) DIVZERO (map (fresh (div binary64 (q .value) (p .value))) (joined l (along inverted m))))
+        goes (q .unit) (p .unit) fs gs h (λ ks l m. unless (isZero (p .value)) DIVZERO (apply (fresh (div binary64 (q .value) (p .value))) (joined l (along inverted m))))
         ∙ fault-passes (isZero (p .value)) DIVZERO _ z
-        ∙ ap (map (fresh (div binary64 (q .value) (p .value)))) (room-over fs gs r)
+        ∙ ap (apply (fresh (div binary64 (q .value) (p .value)))) (room-over fs gs r)
 
     -- the exponent is the scalar x, the whole number n; l is the list with its exponents multiplied
-    pub raises : (x : Float) (n : ℤ) (l : List Factor) → convertIn t ks gs [] (p .value) ≡ given x → (isZero (q .value) && lt x zero) ≡ false → wholeExponent x ≡ given n → each (raised (over1 n)) fs ≡ given l →
+    pub raises : (x : Float) (n : ℤ) (l : List Factor) → convert (rulesIn t ks) gs [] (p .value) ≡ given x → (isZero (q .value) && lt x zero) ≡ false → wholeExponent x ≡ given n → each (raised (over1 n)) fs ≡ given l →
         checkedPower t q p ≡ given (fresh (power (q .value) n) l)
     unfolding checkedPower raisedTo
     raises x n l cx z cn cl =
-        goes (q .unit) (p .unit) fs gs h (λ ks l m. bind (convertIn t ks m [] (p .value)) (λ x. raisedTo (q .value) l x))
+        goes (q .unit) (p .unit) fs gs h (λ ks l m. bind (convert (rulesIn t ks) m [] (p .value)) (λ x. raisedTo (q .value) l x))
         ∙ bind-given _ cx
         ∙ fault-passes (isZero (q .value) && lt x zero) ZERONEG _ z
         ∙ bind-given _ cn
-        ∙ ap (map (fresh (power (q .value) n))) cl
+        ∙ ap (apply (fresh (power (q .value) n))) cl

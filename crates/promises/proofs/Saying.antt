@@ -7,7 +7,7 @@ use lib.Ieee as ieee
 use lib.Ieee.{binary64, toBits, ofBits}
 use lib.ListN.{length}
 use Rattle.exponents.specs.Outcome.{Refusal, Outcome, given, refused, unless, bind, each}
-use Rattle.exponents.specs.Fractions.{worked}
+use Rattle.exponents.specs.Held.{worked}
 use Rattle.floats.specs.Power.{bitsOf, raise, power}
 use Rattle.units.specs.declared.Factor.{Factor}
 use Rattle.units.specs.declared.Factors.{Factors}
@@ -19,13 +19,14 @@ use Rattle.units.specs.Lists as factors
 use Rattle.units.specs.Lists.{pack, factorFault, some, checked, both, withExponent, joined, inverted, raised}
 use Rattle.lent.specs.Lent.{over, lentRows}
 use Rattle.tables.specs.Lists.{baseAt, base}
-use Rattle.tables.specs.Key as keys
-use Rattle.tables.specs.Key.{multiple, whole, wholes, divisor, below, turn, shrink, key, entry, entries, other, first}
+use Rattle.keys.specs.Key as keys
+use Rattle.keys.specs.Key.{multiple, whole, wholes, divisor, below, turn, shrink, key, entry, entries, other, first}
 use Rattle.tables.specs.Scale.{raise as raisedBy, raisedTo, scaleFrom}
 use Rattle.tables.specs.Rows.{expAt, scaleAt, places, placed, slotted, slotsFrom, isBase, count, kindFault, tableFault, rowExps, rowScale, workedOut, rowFacts, admitFrom, admit}
-use Rattle.tables.specs.Items.{keyOrder, rowOrder}
+use Rattle.tables.specs.Order.{keyOrder, rowOrder}
+use Rattle.keys.specs.Orders.{isEq}
 use Rattle.canonical.specs.Canonical as form
-use Rattle.canonical.specs.Canonical.{place, insert, gather, nonzero, canon, isEq, sameList, sameAll, allNought}
+use Rattle.canonical.specs.Canonical.{place, insert, gather, nonzero, canon, sameList, sameAll, allNought, dropIf}
 use Rattle.canonical.specs.Equality as forms
 use Rattle.reduction.specs.Multiple.{Maybe, firstBase, fits, multipleOf, isMultiple}
 use Rattle.reduction.specs.Reduction as reductions
@@ -35,12 +36,12 @@ use Rattle.common.specs.Common.{meet, ifSame, withShared, sharedWith, common}
 use Rattle.conversion.specs.Conversion.{judged, choose, rescaled, against, unlike, convert}
 use Rattle.values.specs.Quantities.{made}
 use Rattle.values.specs.Calls as values
-use Rattle.powers.specs.Whole as whole
-use Rattle.powers.specs.Powers as powers
 use Rattle.quantities.specs.Comparisons.{equalTo, ordered}
 use Rattle.quantities.specs.Calls as call
 use Rattle.sums.specs.Sums.{together, nonzeroSum}
 use Rattle.sums.specs.Calls as sums
+use Rattle.powers.specs.Whole as whole
+use Rattle.powers.specs.Powers as powers
 use Rattle.powers.specs.Calls as power-of
 use Rattle.targets.specs.Single as single
 use Rattle.targets.specs.Groups as groups
@@ -155,5 +156,5 @@ module _ (t : Rows) where
 
 -- `unfolding computed` opens what the calls are worked out by
 unfoldable pub computed : Unit {0}
-unfolding over lentRows says ranked unless bind each worked bitsOf raise power ieee.add ieee.sub ieee.mul ieee.div ieee.neg ieee.eq ieee.lt ieee.le ieee.isNan ieee.rem ieee.toSigned toBits ofBits pack factorFault some checked both withExponent joined inverted raised factors.product factors.quotient factors.listPower baseAt base multiple whole wholes divisor below turn shrink keys.reduce key entry entries other first raisedBy raisedTo scaleFrom expAt scaleAt places placed slotted slotsFrom isBase count kindFault tableFault rowExps rowScale workedOut rowFacts admitFrom admit keyOrder rowOrder place insert gather form.unless nonzero canon isEq sameList sameAll allNought forms.equal firstBase fits multipleOf isMultiple baseFactors reduced reducedScale reductions.reduction reductions.smallerUnit lists.product lists.quotient lists.listPower lists.canonical lists.reduction lists.sameLists lists.smallerUnit lists.multiple meet ifSame withShared sharedWith common judged choose rescaled against unlike convert whole.isWhole whole.isBeyond whole.wholeExponent powers.raisedTo values.reduce equalTo ordered call.convertTo call.equal call.compare together nonzeroSum sums.summed sums.add sums.subtract power-of.checkedPower single.wholly single.search single.single groups.onto groups.groups groups.above groups.greatest groups.share groups.summed groups.fitted groups.target steps.goOn steps.attempt steps.grown steps.converted steps.byGroups steps.toward steps.further steps.simplify simplification.fullSimplify registry.listsFrom registry.candidateLists registry.nearOne registry.larger registry.close registry.isSingle registry.after registry.fitting registry.turn registry.chosen registry.settled registry.registered registry-form.fullSimplifyWith
+unfolding over lentRows says ranked unless bind each worked bitsOf raise power ieee.add ieee.sub ieee.mul ieee.div ieee.neg ieee.eq ieee.lt ieee.le ieee.isNan ieee.rem ieee.toSigned toBits ofBits pack factorFault some checked both withExponent joined inverted raised factors.product factors.quotient factors.listPower baseAt base multiple whole wholes divisor below turn shrink keys.reduce key entry entries other first raisedBy raisedTo scaleFrom expAt scaleAt places placed slotted slotsFrom isBase count kindFault tableFault rowExps rowScale workedOut rowFacts admitFrom admit keyOrder rowOrder place insert gather dropIf nonzero canon isEq sameList sameAll allNought forms.equal firstBase fits multipleOf isMultiple baseFactors reduced reducedScale reductions.reduction reductions.smallerUnit lists.product lists.quotient lists.listPower lists.canonical lists.reduction lists.sameLists lists.smallerUnit lists.multiple meet ifSame withShared sharedWith common judged choose rescaled against unlike convert whole.isWhole whole.isBeyond whole.wholeExponent powers.raisedTo values.reduce equalTo ordered call.convertTo call.equal call.compare together nonzeroSum sums.summed sums.add sums.subtract power-of.checkedPower single.wholly single.search single.single groups.onto groups.groups groups.above groups.greatest groups.share groups.summed groups.fitted groups.target steps.goOn steps.attempt steps.grown steps.converted steps.byGroups steps.toward steps.further steps.simplify simplification.fullSimplify registry.listsFrom registry.candidateLists registry.nearOne registry.larger registry.close registry.isSingle registry.after registry.fitting registry.turn registry.chosen registry.settled registry.registered registry-form.fullSimplifyWith
 computed = tt

@@ -5,7 +5,7 @@ use Prim.Native.Nat.{ℕ, _≤_}
 use native.Mathlib.Omega.{arith}
 use borrow.Author.Tests.{le-ltb}
 use lib.ListN.{length, drop, replicate, length-replicate}
-use Rattle.exponents.specs.Outcome.{Refusal, TABLE, SHAPE, UNKNOWN, ROOM, RANGE, UNITS, FRACTION, DIVZERO, ZERONEG, NONWHOLE, NAN, number, Outcome, given, refused, unless, map, bind, refusalOf}
+use Rattle.exponents.specs.Outcome.{Refusal, TABLE, SHAPE, UNKNOWN, ROOM, RANGE, UNITS, FRACTION, DIVZERO, ZERONEG, NONWHOLE, NAN, number, Outcome, given, refused, unless, apply, bind, refusalOf}
 use Rattle.exponents.proofs.Holds.{Holds, held}
 use Rattle.units.specs.declared.Quantity.{Quantity}
 use Rattle.units.specs.declared.Row.{Row}
@@ -62,7 +62,7 @@ unfolding sent bind
 sent-refused room r = refl
 
 -- an exported call with room for a quantity: what it writes, read back
-from-room : (room : List ℕ) (o : Outcome Quantity) → 336 ≤ length room → Holds QuantityFits o → outcomeFrom (refusalOf (sent room (map quantityBytes o))) (left room (sent room (map quantityBytes o))) ≡ o
+from-room : (room : List ℕ) (o : Outcome Quantity) → 336 ≤ length room → Holds QuantityFits o → outcomeFrom (refusalOf (sent room (apply quantityBytes o))) (left room (sent room (apply quantityBytes o))) ≡ o
 from-room room (refused r) h f = rw (sent-refused room r) (heard-refusal r _)
 from-room room (given q) h (held f) =
     rw (sent-whole room (quantityBytes q) (omega (arith, quantity-form .sized q f)))
@@ -75,5 +75,5 @@ module _ (P : Outcome Quantity → Type 0) (o : Outcome Quantity) (h : P o) wher
   over-rows r e = subst P (sym (ap outcomeIn e ∙ in-answer o)) h
 
   -- and of what the exported call returns and leaves in a room of 336 bytes or more, read back
-  pub over-bytes : Holds QuantityFits o → (room : List ℕ) → 336 ≤ length room → (n : ℕ) (end : List ℕ) → Exported room (map quantityBytes o) n end → P (outcomeFrom n end)
+  pub over-bytes : Holds QuantityFits o → (room : List ℕ) → 336 ≤ length room → (n : ℕ) (end : List ℕ) → Exported room (apply quantityBytes o) n end → P (outcomeFrom n end)
   over-bytes f room l n end e = subst P (sym (ap₂ outcomeFrom (e .0) (e .1) ∙ from-room room o l f)) h

@@ -18,9 +18,7 @@ use Rattle.units.specs.declared.Row.{Row}
 use Rattle.units.specs.declared.Rows.{Rows}
 use Rattle.units.specs.Lists.{listOf, checked, both}
 use Rattle.lent.specs.Lent.{lentRows}
-use Rattle.tables.specs.Rows.{Facts}
-use Rattle.canonical.specs.Order.{orderIn}
-use Rattle.lists.specs.Opening.{table}
+use Rattle.tables.specs.Rows.{Facts, table}
 use Rattle.lists.specs.Calls.{sameLists}
 use Rattle.common.specs.Common.{common, over}
 use Rattle.values.specs.Quantities.{fresh, answeredOf}
@@ -32,7 +30,7 @@ use Rattle.requests.specs.Calls as requests
 use Rattle.demsharin.specs.Exports.{Exported}
 use Rattle.promises.specs.Shipped.{outcomeIn, outcomeFrom}
 use Rattle.promises.proofs.Demands as demand
-use Rattle.promises.proofs.Demands.{SameBase, Scale, InRange}
+use Rattle.promises.proofs.Demands.{rules, SameBase, Scale, InRange}
 use Rattle.promises.proofs.Fitting.{convert-fits, simplify-fits, read-fits}
 use Rattle.promises.proofs.Shipped.{over-rows, over-bytes}
 
@@ -42,7 +40,7 @@ module _ (t : Rows) (ks : List Facts) (k : table t ≡ given ks) (q : Quantity) 
   -- what an answer must be: UNITS exactly where base exponents differ; the scaled value where they agree
   pub record Converts (o : Outcome Quantity) : Type 0 where
     pub units : (o ≡ refused UNITS) ↔ (SameBase t ks k fs gs → ⊥)
-    pub scaled : SameBase t ks k fs gs → (own target : Float) → Scale t ks k (over fs (common (orderIn ks) cl cm)) ≡ given own → Scale t ks k l ≡ given target →
+    pub scaled : SameBase t ks k fs gs → (own target : Float) → Scale t ks k (over fs (common (rules t ks k .order) cl cm)) ≡ given own → Scale t ks k l ≡ given target →
         o ≡ given (fresh (div ieee.binary64 (mul ieee.binary64 (q .value) own) target) gs)
 
   pub converts : Converts (convertTo t q m)

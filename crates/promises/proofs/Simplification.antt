@@ -6,7 +6,8 @@ use Prim.Native.Nat.{ℕ}
 use native.Mathlib.Omega.{arith}
 use lib.Ieee.{Float}
 use lib.ListN.{length}
-use Rattle.exponents.specs.Outcome.{Refusal, RANGE, FRACTION, SHAPE, UNKNOWN, UNITS, given, refused, map}
+use Rattle.exponents.specs.Words.{pick}
+use Rattle.exponents.specs.Outcome.{Refusal, RANGE, FRACTION, SHAPE, UNKNOWN, UNITS, given, refused, apply}
 use Rattle.exponents.proofs.Holds.{Holds, held, Only, fine, holds-map, only-map, only-bind, bind-given}
 use Rattle.exponents.proofs.Rationals.{value}
 use Rattle.floats.specs.Values.{isZero}
@@ -16,13 +17,12 @@ use Rattle.units.specs.declared.Quantity.{Quantity}
 use Rattle.units.specs.declared.Rows.{Rows}
 use Rattle.units.specs.Lists.{listOf, checked}
 use Rattle.units.proofs.Laws.{list-pack}
-use Rattle.tables.specs.Rows.{pick, Facts}
+use Rattle.tables.specs.Rows.{Facts, table}
+use Rattle.tables.specs.Rules.{rulesIn}
 use Rattle.canonical.proofs.Bases.{Agree}
-use Rattle.lists.specs.Opening.{table}
-use Rattle.lists.specs.Calls.{basesIn}
-use Rattle.values.specs.Quantities.{made}
+use Rattle.exponents.proofs.Words.{pick-is}
 use Rattle.conversion.proofs.Refusals.{range-not-units}
-use Rattle.simplification.specs.Rules.{rulesIn}
+use Rattle.values.specs.Quantities.{made}
 use Rattle.simplification.specs.Steps.{quantityOf, simplify}
 use Rattle.simplification.specs.Calls.{fullSimplify}
 use Rattle.simplification.proofs.Agreed.{agree-self}
@@ -34,25 +34,23 @@ use Rattle.promises.proofs.Unadmitted.{checked-only, table-only}
 module _ (t : Rows) (ks : List Facts) (k : table t ≡ given ks) (q : Quantity) (fs : List Factor) (h : checked (length ks) (q .unit) ≡ given fs) where
   -- p has its base exponents
   abbrev pub KeepsBase : Quantity → Type 0
-  KeepsBase p = Agree value (basesIn t ks) fs (listOf (p .unit))
+  KeepsBase p = Agree value (rulesIn t ks .bases) fs (listOf (p .unit))
 
-  goes : fullSimplify t q ≡ pick (q .mark) (map quantityOf (simplify (rulesIn t ks) (q .value) fs)) (given (made false (q .value) fs))
+  goes : fullSimplify t q ≡ pick (q .mark) (apply quantityOf (simplify (rulesIn t ks) (q .value) fs)) (given (made false (q .value) fs))
   unfolding fullSimplify
   goes = bind-given _ k ∙ bind-given _ h
 
-  pub made-keeps : (mark : Bool) (v : Float) (m : List Factor) → Agree value (basesIn t ks) fs m → KeepsBase (made mark v m)
-  made-keeps mark v m a = subst (λ l. Agree value (basesIn t ks) fs l) (sym (list-pack m)) a
+  pub made-keeps : (mark : Bool) (v : Float) (m : List Factor) → Agree value (rulesIn t ks .bases) fs m → KeepsBase (made mark v m)
+  made-keeps mark v m a = subst (λ l. Agree value (rulesIn t ks .bases) fs l) (sym (list-pack m)) a
 
   pub same : Holds KeepsBase (given (made false (q .value) fs))
-  same = held {a = made false (q .value) fs} (made-keeps false (q .value) fs (agree-self value (basesIn t ks) fs))
+  same = held {a = made false (q .value) fs} (made-keeps false (q .value) fs (agree-self value (rulesIn t ks .bases) fs))
 
   -- THEOREM: full simplification of a nonzero value, if it answers, keeps base exponents
   pub keeps-base : isZero (q .value) ≡ false → Holds KeepsBase (fullSimplify t q)
-  keeps-base n = subst (λ o. Holds KeepsBase o) (sym goes) (either (q .mark))
-    where
-      either : (b : Bool) → Holds KeepsBase (pick b (map quantityOf (simplify (rulesIn t ks) (q .value) fs)) (given (made false (q .value) fs)))
-      either true = holds-map quantityOf (simplified-keeps t ks k (q .unit) fs h (q .value) n) λ a e. made-keeps true (a .0) (a .1) e
-      either false = same
+  keeps-base n =
+      subst (λ o. Holds KeepsBase o) (sym goes)
+      (pick-is (Holds KeepsBase) (q .mark) (holds-map quantityOf (simplified-keeps t ks k (q .unit) fs h (q .value) n) λ a e. made-keeps true (a .0) (a .1) e) same)
 
   -- THEOREM: it answers, or is refused by RANGE or FRACTION: by a step that leaves the range, or a fractional scale
   pub refuses : (S : Refusal → Type 0) → S RANGE → S FRACTION → Only S (fullSimplify t q)

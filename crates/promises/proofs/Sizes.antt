@@ -8,12 +8,13 @@ use borrow.Author.Tests.{le-ltb}
 use lib.Dec.{eqb}
 use lib.Ieee.{Float}
 use lib.ListN.{length, length-append, length-replicate}
-use Rattle.exponents.specs.Outcome.{Outcome, refused, ROOM, unless, map, bind}
-use Rattle.exponents.proofs.Holds.{Holds, moot, held, holds-imp, holds-map}
+use Rattle.exponents.specs.Outcome.{Outcome, refused, ROOM, unless, apply, bind}
+use Rattle.exponents.proofs.Holds.{holds-all, Holds, moot, held, holds-imp, holds-map}
 use Rattle.units.specs.declared.Factor.{Factor}
 use Rattle.units.specs.declared.Quantity.{Quantity}
 use Rattle.units.specs.Prefixes.{prefixFactor}
 use Rattle.units.specs.Lists.{pack}
+use Rattle.exponents.proofs.Words.{pick-is}
 use Rattle.reduction.specs.Multiple.{Maybe, times, none}
 use Rattle.lists.specs.Calls as lists
 use Rattle.quantities.specs.Calls as quantities
@@ -28,7 +29,6 @@ use Rattle.replies.proofs.Parts.{value-sized}
 use Rattle.requests.specs.Calls as requests
 use Rattle.stream.specs.Calls.{Call, calls, look, callOf}
 use Rattle.stream.specs.Stream.{lent, answerTo, answered}
-use Rattle.promises.proofs.Bounded.{either, mapped}
 use Rattle.promises.proofs.Rounded.{ValueFits}
 use Rattle.promises.proofs.Fitting as fitting
 use Rattle.promises.proofs.Fitting.{read-fits}
@@ -40,20 +40,20 @@ Short bs = length bs ≤ 336
 -- ---- the answers' bytes
 
 -- bytes of one size, whatever the answer
-sized : {A : Type 0} (bytes : A → List ℕ) (size : ℕ) → size ≤ 336 → ((a : A) → length (bytes a) ≡ size) → (o : Outcome A) → Holds Short (map bytes o)
-sized bytes size h e o = mapped bytes o λ a. omega (arith, e a)
+sized : {A : Type 0} (bytes : A → List ℕ) (size : ℕ) → size ≤ 336 → ((a : A) → length (bytes a) ≡ size) → (o : Outcome A) → Holds Short (apply bytes o)
+sized bytes size h e o = holds-all bytes o λ a. omega (arith, e a)
 
-number-short : {A : Type 0} (number : A → ℕ) (o : Outcome A) → Holds Short (map (λ a. bytesOf 4 (number a)) o)
+number-short : {A : Type 0} (number : A → ℕ) (o : Outcome A) → Holds Short (apply (λ a. bytesOf 4 (number a)) o)
 number-short number = sized (λ a. bytesOf 4 (number a)) 4 (omega arith) λ a. length-bytesOf 4 (number a)
 
-unit-short : {o : Outcome (List Factor)} → Holds (λ fs. ListFits (pack fs)) o → Holds Short (map unitBytes o)
+unit-short : {o : Outcome (List Factor)} → Holds (λ fs. ListFits (pack fs)) o → Holds Short (apply unitBytes o)
 unfolding unitBytes
 unit-short h = holds-map unitBytes h λ fs k. omega (arith, list-form .sized (pack fs) k)
 
-quantity-short : {o : Outcome Quantity} → Holds QuantityFits o → Holds Short (map quantityBytes o)
+quantity-short : {o : Outcome Quantity} → Holds QuantityFits o → Holds Short (apply quantityBytes o)
 quantity-short h = holds-map quantityBytes h λ q k. omega (arith, quantity-form .sized q k)
 
-reduced-short : {o : Outcome (List Factor × Float)} → Holds (λ p. ListFits (pack (p .0)) × ValueFits (p .1)) o → Holds Short (map reducedBytes o)
+reduced-short : {o : Outcome (List Factor × Float)} → Holds (λ p. ListFits (pack (p .0)) × ValueFits (p .1)) o → Holds Short (apply reducedBytes o)
 unfolding reducedBytes valueBytes unitBytes
 reduced-short h = holds-map reducedBytes h λ p k. simp (length-append, length-bytesOf) (omega (arith, list-form .sized (pack (p .0)) (k .0)))
 
@@ -104,7 +104,7 @@ calls-brief =
 look-brief : {l : List Call} (n : ℕ) → Each l → Brief (look l n)
 unfolding look
 look-brief n done = λ x y z. moot
-look-brief n (_and_ {c = c} {l = l} b e) = either Brief (eqb n (c .code)) c (look l n) b (look-brief n e)
+look-brief n (_and_ {c = c} {l = l} b e) = pick-is Brief (eqb n (c .code)) {a = c} {b = look l n} b (look-brief n e)
 
 pub short : (code : ℕ) (s : List ℕ) → Holds Short (answerTo code s)
 unfolding answerTo callOf

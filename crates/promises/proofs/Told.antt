@@ -4,24 +4,25 @@ use mathlib.Core.Bool.{Bool, true, false}
 use mathlib.Core.Option.{some, none}
 use Prim.Native.Nat.{ℕ, Ordering, Ordering·lt, Ordering·eq, Ordering·gt}
 use lib.Ieee.{Float, binary64, ofBits}
-use Rattle.exponents.specs.Outcome.{Outcome, given, refused, map, toldOf}
+use Rattle.exponents.specs.Outcome.{Outcome, given, refused, apply}
 use Rattle.units.specs.declared.Factors.{Factors}
 use Rattle.units.specs.declared.Prefix.{Prefix}
 use Rattle.units.specs.declared.prefixes.PrefixFactor.{PrefixFactor}
 use Rattle.units.specs.declared.Quantity.{Quantity}
 use Rattle.units.specs.declared.Rows.{Rows}
-use Rattle.units.specs.Prefixes.{prefixFactor, prefixFactorOf, factorTold}
+use Rattle.units.specs.Prefixes.{prefixFactor, prefixFactorOf}
 use Rattle.canonical.specs.declared.equality.Verdict.{Verdict}
-use Rattle.canonical.specs.Equality.{verdictOf, verdictTold}
+use Rattle.canonical.specs.Equality.{verdictOf}
 use Rattle.reduction.specs.declared.multiples.Multiple.{Multiple}
 use Rattle.reduction.specs.Multiple as multiples
-use Rattle.reduction.specs.Multiple.{times, multipleIs, multipleTold}
+use Rattle.reduction.specs.Multiple.{times, multipleIs}
 use Rattle.lists.specs.Calls.{sameLists, multiple}
 use Rattle.conversion.specs.declared.convert.Converted.{Converted}
-use Rattle.conversion.specs.Conversion.{convertedOf, convertedTold}
+use Rattle.conversion.specs.Held.{convertedOf}
 use Rattle.quantities.specs.declared.comparisons.Compared.{Compared}
-use Rattle.quantities.specs.Comparisons.{comparedOf, comparedTold}
+use Rattle.quantities.specs.Comparisons.{comparedOf}
 use Rattle.quantities.specs.Calls.{equal, compare}
+use Rattle.promises.specs.Told.{toldOf, factorTold, verdictTold, multipleTold, convertedTold, comparedTold}
 
 -- value bits zero
 abbrev zero : Float
@@ -60,10 +61,10 @@ module _ (t : Rows) where
   pub equal-tells : (q p : Quantity) (r : Verdict) → r ≡ verdictOf (equal t q p) → verdictTold r ≡ toldOf false (equal t q p)
   equal-tells q p = told verdictOf verdictTold (toldOf false) verdict (equal t q p)
 
-  pub compare-tells : (q p : Quantity) (r : Compared) → r ≡ comparedOf (compare t q p) → comparedTold r ≡ toldOf none (map some (compare t q p))
-  compare-tells q p = told comparedOf comparedTold (λ o. toldOf none (map some o)) go (compare t q p)
+  pub compare-tells : (q p : Quantity) (r : Compared) → r ≡ comparedOf (compare t q p) → comparedTold r ≡ toldOf none (apply some (compare t q p))
+  compare-tells q p = told comparedOf comparedTold (λ o. toldOf none (apply some o)) go (compare t q p)
     where
-      go : (o : Outcome Ordering) → comparedTold (comparedOf o) ≡ toldOf none (map some o)
+      go : (o : Outcome Ordering) → comparedTold (comparedOf o) ≡ toldOf none (apply some o)
       go (given Ordering·lt) = refl
       go (given Ordering·eq) = refl
       go (given Ordering·gt) = refl

@@ -15,10 +15,10 @@ use Rattle.units.specs.declared.Row.{Row}
 use Rattle.units.specs.declared.Rows.{Rows}
 use Rattle.units.specs.Lists.{checked}
 use Rattle.tables.specs.declared.Slot.{Slot}
-use Rattle.tables.specs.Key.{multiple, key}
-use Rattle.tables.specs.Scale.{binary64, sizeBy}
-use Rattle.tables.specs.Rows.{pick, Facts, scaleAt, defOf, rowExps, rowScale, workedOut, rowFacts, slots, Admission, stopped, admitOn, admitFrom, rowsOf, admit}
-use Rattle.lists.specs.Opening.{known, table}
+use Rattle.keys.specs.Key.{multiple, key}
+use Rattle.tables.specs.Rows.{Facts, defOf, rowExps, rowScale, workedOut, rowFacts, slots, Admission, stopped, admitOn, admitFrom, rowsOf, admit, known, table}
+use Rattle.tables.specs.Rules.{rulesIn}
+use Rattle.exponents.proofs.Words.{pick-is}
 use Rattle.conversion.proofs.Refusals.{base-only, fraction-only, scale-is}
 
 -- S holds of what they refuse by
@@ -34,7 +34,7 @@ module _ (S : Refusal → Type 0) where
   checked-only shape un rows l = unless-only _ SHAPE shape (unless-only _ UNKNOWN un fine)
 
   -- ---- a table
-  module _ (tab : S TABLE) (shape : S SHAPE) (range : S RANGE) (frac : S FRACTION) where
+  module _ (tab : S TABLE) (shape : S SHAPE) (range : S RANGE) (frac : S FRACTION) (t : Rows) where
     multiple-only : (m : ℕ) (l : List Exponent) → Only S (multiple m l)
     unfolding multiple lcm?
     multiple-only m [] = fine
@@ -48,7 +48,7 @@ module _ (S : Refusal → Type 0) where
     scale-only : (k : Kind) (js : List Facts) (r : Row) → Only S (rowScale k js r)
     unfolding rowScale
     scale-only Base js r = fine
-    scale-only (Derived f) js r = only-map _ (fraction-only S frac (scale-is binary64 (sizeBy (scaleAt js)) one (defOf r)))
+    scale-only (Derived f) js r = only-map _ (fraction-only S frac (scale-is (rulesIn t js) one (defOf r)))
 
     facts-only : (ss : List Slot) (js : List Facts) (r : Row) → Only S (rowFacts ss js r)
     unfolding rowFacts workedOut key
@@ -67,10 +67,6 @@ module _ (S : Refusal → Type 0) where
     from-only ss js [] = fine
     from-only ss js (r ∷ rs) = on-only (rowFacts ss js r) js _ (facts-only ss js r) λ k. from-only ss (js ++ (k ∷ [])) rs
 
-    pub table-only : (t : Rows) → Only S (table t)
+    pub table-only : Only S (table t)
     unfolding admit
-    table-only t = either (ltb 128 (t .len))
-      where
-        either : (b : Bool) → Only S (known (pick b (stopped TABLE []) (admitFrom (slots (rowsOf t)) [] (rowsOf t))))
-        either true = only tab
-        either false = from-only (slots (rowsOf t)) [] (rowsOf t)
+    table-only = pick-is (λ a. Only S (known a)) (ltb 128 (t .len)) {a = stopped TABLE []} (only tab) (from-only (slots (rowsOf t)) [] (rowsOf t))

@@ -12,7 +12,7 @@ use Rattle.exponents.proofs.Rationals.{value}
 use Rattle.units.specs.declared.Factor.{Factor}
 use Rattle.units.specs.Lists.{inverted, raised}
 use Rattle.tables.specs.Lists.{baseAt, base}
-use Rattle.tables.proofs.Each.{Along, done, next, each-holds}
+use Rattle.exponents.proofs.Each.{Along, done, next, each-holds}
 use Rattle.canonical.specs.Canonical.{sameAll}
 use Rattle.canonical.proofs.Answered.{product-answers, quotient-answers, power-answers}
 use Rattle.canonical.proofs.Bases.{Agree}

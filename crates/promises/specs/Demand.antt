@@ -1,8 +1,7 @@
 -- What demand 3 speaks of: lists of base exponents added, subtracted and multiplied place by place, by 01's ranged operations; and calls that answer.
 use mathlib.Core.Path.{_≡_}
 use mathlib.Core.List.{List, [], _∷_, map}
-use Rattle.exponents.specs.Outcome.{Outcome, given, bind, each}
-use Rattle.exponents.specs.Outcome as outcome
+use Rattle.exponents.specs.Outcome.{Outcome, given, bind, each, apply}
 use Rattle.exponents.specs.Fractions.{neg, add?, mul?}
 use Rattle.exponents.specs.declared.Exponent.{Exponent}
 
@@ -14,7 +13,7 @@ Answers {A} o P = (a : A) × (o ≡ given a) × P a
 unfoldable pub sums : List Exponent → List Exponent → Outcome (List Exponent)
 sums [] ys = given []
 sums (x ∷ xs) [] = given []
-sums (x ∷ xs) (y ∷ ys) = bind (add? x y) (λ z. outcome.map (λ zs. z ∷ zs) (sums xs ys))
+sums (x ∷ xs) (y ∷ ys) = bind (add? x y) (λ z. apply (λ zs. z ∷ zs) (sums xs ys))
 
 -- their differences
 abbrev pub differences : List Exponent → List Exponent → Outcome (List Exponent)

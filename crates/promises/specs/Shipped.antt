@@ -2,9 +2,9 @@
 use mathlib.Core.List.{List}
 use Prim.Native.Nat.{ℕ}
 use lib.Dec.{eqb}
+use Rattle.exponents.specs.Words.{pick}
 use Rattle.exponents.specs.Outcome.{Refusal, TABLE, SHAPE, UNKNOWN, ROOM, RANGE, UNITS, FRACTION, DIVZERO, ZERONEG, NONWHOLE, NAN, number, Outcome, given, refused}
 use Rattle.units.specs.declared.Quantity.{Quantity}
-use Rattle.tables.specs.Rows.{pick}
 use Rattle.values.specs.declared.answers.Answer.{Answer}
 use Rattle.wire.specs.Records.{quantityAt}
 

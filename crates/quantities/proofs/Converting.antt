@@ -4,16 +4,18 @@ use mathlib.Core.Bool.{Bool, true, false}
 use Prim.Native.Nat.{ℕ, Ordering}
 use lib.Dec.{eqb}
 use lib.Ieee.{Float, eq}
-use Rattle.exponents.specs.Outcome.{Refusal, Outcome, given, refused, UNITS, number, unless, map}
+use Rattle.exponents.specs.Outcome.{Refusal, Outcome, given, refused, UNITS, number, unless, apply}
 use Rattle.exponents.proofs.Numbers.{Refuses}
-use Rattle.tables.specs.Rows.{pick}
+use Rattle.exponents.specs.Words.{pick}
 use Rattle.canonical.specs.Equality.{verdictOf}
+use Rattle.canonical.specs.declared.equality.Verdict.{Verdict}
 use Rattle.canonical.specs.declared.equality.Verdict.the-variants as verdict
 use Rattle.lists.proofs.Ends.{handed}
-use Rattle.conversion.specs.Conversion.{convertedOf, refusedBy}
+use Rattle.conversion.specs.Held.{convertedOf, refusedBy}
 use Rattle.conversion.specs.declared.convert.Converted.{Converted}
 use Rattle.conversion.specs.declared.convert.Converted.the-variants.{Value, Refused}
-use Rattle.quantities.specs.Comparisons.{equalTo, comparedOf, judgement}
+use Rattle.quantities.specs.Comparisons.{equalTo, comparedOf}
+use Rattle.quantities.specs.Held.{judgement}
 use Rattle.quantities.specs.declared.comparisons.Compared.the-variants as compared
 
 -- ---- what a conversion, as code has it, tells of its outcome
@@ -32,9 +34,23 @@ module _ (o : Outcome Float) (c : Converted) (e : c ≡ convertedOf o) where
   pub value-refused : (k n : ℕ) → c ≡ Refused k → n ≡ refusedBy c → Refuses o n
   value-refused k n h i = subst (Refuses o) (sym (i ∙ ap refusedBy h)) (subst (Tells o) (sym e ∙ h) (tells o))
 
+-- ---- what a test, as code has it, tells of its outcome
+abbrev pub Judges : Outcome Bool → Verdict → Type 0
+Judges o verdict.Yes = o ≡ given true
+Judges o verdict.No = o ≡ given false
+Judges o (verdict.Refused n) = Refuses o n
+
+judges : (o : Outcome Bool) → Judges o (verdictOf o)
+judges (given true) = refl
+judges (given false) = refl
+judges (refused r) = record { why = r; is = refl; numbered = refl }
+
+pub judged-so : (o : Outcome Bool) (e w : Verdict) → e ≡ verdictOf o → e ≡ w → Judges o w
+judged-so o e w p h = subst (Judges o) (sym p ∙ h) (judges o)
+
 -- ---- refusals passed on
-pub map-refuses : {A B : Type 0} (f : A → B) (o : Outcome A) (n : ℕ) → Refuses o n → Refuses (map f o) n
-map-refuses f o n r = record { why = r .why; is = ap (map f) (r .is); numbered = r .numbered }
+pub map-refuses : {A B : Type 0} (f : A → B) (o : Outcome A) (n : ℕ) → Refuses o n → Refuses (apply f o) n
+map-refuses f o n r = record { why = r .why; is = ap (apply f) (r .is); numbered = r .numbered }
 
 pub refuses-as : {A : Type 0} (o p : Outcome A) (n : ℕ) → p ≡ o → Refuses o n → Refuses p n
 refuses-as o p n e r = record { why = r .why; is = e ∙ r .is; numbered = r .numbered }

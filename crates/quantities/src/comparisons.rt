@@ -2,9 +2,10 @@
 ghost use mathlib.Core.Path.{_≡_};
 ghost use Rattle.units.specs.declared.Rows.{Rows as Rowsᵛ};
 ghost use Rattle.canonical.specs.Equality.{verdictOf};
-ghost use Rattle.lists.specs.Opening.{Tells, baseRows, opening, openedOf};
+ghost use Rattle.lists.specs.Held.{Opens};
 ghost use Rattle.quantities.specs.Comparisons as comparisons;
 ghost use Rattle.quantities.specs.Comparisons.{comparedOf};
+ghost use Rattle.quantities.specs.Held.{judgement};
 ghost use Rattle.quantities.specs.Calls as spec;
 use canonical::equality::Verdict;
 use conversion::convert::Converted;
@@ -24,7 +25,7 @@ pub enum Compared {
 
 // Whether x is the converted value; UNITS is a no, and so is a NaN.
 fn is_equal(x: f64, c: Converted) -> Verdict
-    ensures { λ r. ⌜ r ≡ comparisons.judgement x c ⌝ }
+    ensures { λ r. ⌜ r ≡ judgement x c ⌝ }
 {
     let Converted::Value(y) = c else {
         let n = conversion::convert::refusal_of(c);
@@ -38,7 +39,7 @@ fn is_equal(x: f64, c: Converted) -> Verdict
 
 // Over the opened table and lists.
 pub fn equal_over(o: Opened, q: Quantity, p: Quantity, nums: &[i32], dens: &[u32]) -> Verdict
-    ensures { λ r. ⌜ ((rows : Rowsᵛ) → o ≡ openedOf (baseRows rows) (opening rows (q .unit) (p .unit)) → Tells rows (now (nums .entry)) (now (dens .entry)) → r ≡ verdictOf (spec.equal rows q p)) ⌝ }
+    ensures { λ r. ⌜ ((rows : Rowsᵛ) → Opens rows (q .unit) (p .unit) o (now (nums .entry)) (now (dens .entry)) → r ≡ verdictOf (spec.equal rows q p)) ⌝ }
 {
     if o.refusal != 0 {
         return Verdict::Refused(o.refusal);
@@ -80,7 +81,7 @@ fn ordered(x: f64, y: f64) -> Compared
 
 // `partial_cmp_preserve_nan`, over the opened table and lists.
 pub fn compare_over(o: Opened, q: Quantity, p: Quantity, nums: &[i32], dens: &[u32]) -> Compared
-    ensures { λ r. ⌜ ((rows : Rowsᵛ) → o ≡ openedOf (baseRows rows) (opening rows (q .unit) (p .unit)) → Tells rows (now (nums .entry)) (now (dens .entry)) → r ≡ comparedOf (spec.compare rows q p)) ⌝ }
+    ensures { λ r. ⌜ ((rows : Rowsᵛ) → Opens rows (q .unit) (p .unit) o (now (nums .entry)) (now (dens .entry)) → r ≡ comparedOf (spec.compare rows q p)) ⌝ }
 {
     if o.refusal != 0 {
         return Compared::Refused(o.refusal);

@@ -2,7 +2,7 @@
 ghost use mathlib.Core.Path.{_≡_};
 ghost use Rattle.units.specs.declared.Factors.{Factors as Factorsᵛ};
 ghost use Rattle.units.specs.declared.Rows.{Rows as Rowsᵛ};
-ghost use Rattle.lists.specs.Opening.{Tells, baseRows, opening, openedOf};
+ghost use Rattle.lists.specs.Held.{Opens};
 ghost use Rattle.values.specs.Quantities.{answeredOf};
 ghost use Rattle.quantities.specs.Calls as spec;
 use conversion::convert::Converted;
@@ -15,7 +15,7 @@ use values::answers::Answer;
 
 // Over the opened table and lists.
 pub fn convert_to_over(o: Opened, q: Quantity, nums: &[i32], dens: &[u32]) -> Answer
-    ensures { λ r. ⌜ ((rows : Rowsᵛ) (target : Factorsᵛ) → o ≡ openedOf (baseRows rows) (opening rows (q .unit) target) → Tells rows (now (nums .entry)) (now (dens .entry)) → r ≡ answeredOf (spec.convertTo rows q target)) ⌝ }
+    ensures { λ r. ⌜ ((rows : Rowsᵛ) (target : Factorsᵛ) → Opens rows (q .unit) target o (now (nums .entry)) (now (dens .entry)) → r ≡ answeredOf (spec.convertTo rows q target)) ⌝ }
 {
     if o.refusal != 0 {
         return answers::refused(o.refusal);

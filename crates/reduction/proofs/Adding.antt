@@ -11,24 +11,21 @@ use lib.ListN.{length, take, drop, getD, set, replicate, take-append-drop}
 use lib.Seq.{getD-set-same, getD-set-other, drop-set-lt, length-take-le, take-all, take-suc}
 use borrow.Author.Tests.{eqb-true, eqb-false}
 use Rattle.exponents.specs.Outcome.{Refusal, Outcome, given, refused, bind, each}
-use Rattle.exponents.specs.Fractions.{nought, add?, mul?, sum?, faulty, fractionOf}
+use Rattle.exponents.specs.Fractions.{nought, add?, mul?, sum?, faulty}
+use Rattle.exponents.specs.Held.{fractionOf}
 use Rattle.exponents.specs.declared.Exponent.{Exponent}
 use Rattle.exponents.specs.declared.Fraction.{Fraction}
 use Rattle.exponents.specs.declared.Fraction.the-variants.{Exact, Refused}
 use Rattle.exponents.proofs.Holds.{take-out, bind-given, bind-refused}
 use Rattle.exponents.proofs.Numbers.{Refuses, exact-given, refused-refuses}
 use Rattle.exponents.proofs.Sound.{nought-sound, sum-sound}
-use Rattle.exponents.proofs.Summing.{bind-assoc}
-use Rattle.exponents.proofs.InRange.{or-left, or-right}
-use Rattle.units.specs.Lists.{some}
+use Rattle.exponents.proofs.Following.{bind-bind}
 use Rattle.units.specs.declared.Factor.{Factor}
 use Rattle.tables.specs.Lists.{baseAt, base}
-use Rattle.tables.specs.Rows.{places, packExps, noExps, expsOf}
-use Rattle.tables.specs.Pages.{told}
-use Rattle.tables.specs.Items.{View, Lent, viewAt, viewBases, itemOf}
-use Rattle.tables.specs.declared.Item.{Item}
+use Rattle.tables.specs.Rows.{places}
+use Rattle.tables.specs.Held.{packExps, noExps, expsOf, told, View, Lends, viewAt, viewBases}
 use Rattle.reduction.specs.declared.bases.Partial.{Partial}
-use Rattle.reduction.specs.Partial.{Summed}
+use Rattle.reduction.specs.Held.{Summed}
 use Rattle.canonical.proofs.Packs.{any-default}
 
 -- ---- one factor more at one base row
@@ -42,8 +39,8 @@ unfolding sum? bind
 sum-snoc term s [] a = ap (bind (term a)) (λ i t. bind-id (add? s t) i)
 sum-snoc term s (x ∷ l) a =
     ap (bind (term x)) (λ i t. bind (add? s t) (λ u. sum-snoc term u l a i))
-    ∙ ap (bind (term x)) (λ i t. sym (bind-assoc (add? s t) (λ u. sum? term u l) (λ u. bind (term a) (λ t. add? u t))) i)
-    ∙ sym (bind-assoc (term x) (λ t. bind (add? s t) (λ u. sum? term u l)) (λ u. bind (term a) (λ t. add? u t)))
+    ∙ ap (bind (term x)) (λ i t. sym (bind-bind (add? s t) (λ u. sum? term u l) (λ u. bind (term a) (λ t. add? u t))) i)
+    ∙ sym (bind-bind (term x) (λ t. bind (add? s t) (λ u. sum? term u l)) (λ u. bind (term a) (λ t. add? u t)))
 
 module _ (fs : List Factor) (f : Factor) (b : ℕ → Exponent) where
   -- what one factor makes of the sum so far
@@ -121,23 +118,23 @@ module _ (v : View) (n : ℕ) (fs : List Factor) (f : Factor) where
 abbrev pub read : Factor → List Exponent → ℕ → Exponent → Exponent → Outcome Exponent
 read f at s d y = bind (mul? (f .exponent) d) (λ t. add? (getD at s y) t)
 
-module _ (v : View) (n : ℕ) (fs : List Factor) (f : Factor) (rule : faulty (f .exponent) ≡ false)
-    (p : Partial) (short : n ≤ 16) (so : Summed v n fs p) (at : List Exponent) (s : ℕ) (a : Adding v n fs f (p .stop) at s)
-    (h : s < p .stop) (full : length at ≡ 16) (nums : List ℤ) (dens : List ℕ) (lent : Lent v nums dens) (d : Exponent) (own : d ≡ told nums dens (f .row) s) (y : Exponent)
+module _ (v : View) (n : ℕ) (fs : List Factor) (f : Factor) (nums : List ℤ) (dens : List ℕ) (lends : Lends v n nums dens) (rule : faulty (f .exponent) ≡ false)
+    (p : Partial) (so : Summed v n fs p) (at : List Exponent) (s : ℕ) (a : Adding v n fs f (p .stop) at s)
+    (h : s < p .stop) (full : length at ≡ 16) (d : Exponent) (own : d ≡ told nums dens (f .row) s) (y : Exponent)
     (term : Fraction) (got : faulty (f .exponent) ≡ false → faulty (getD at s y) ≡ false → term ≡ fractionOf (read f at s d y)) where
   reads : read f at s d y ≡ more fs f (viewAt v s) (getD at s nought)
   reads =
-      let k : s < 16 = omega (arith, so .within) in
-      ap₂ (λ (d acc : Exponent). bind (mul? (f .exponent) d) (λ t. add? acc t)) (own ∙ sym (lent (f .row) s k)) (any-default at s y nought (omega arith))
+      let k : s < 16 = omega (arith, so .within, lends .few) in
+      ap₂ (λ (d acc : Exponent). bind (mul? (f .exponent) d) (λ t. add? acc t)) (own ∙ sym (lends .lent (f .row) s k)) (any-default at s y nought (omega arith))
 
   is-term : term ≡ fractionOf (more fs f (viewAt v s) (getD at s nought))
   is-term =
-      let k : s < 16 = omega (arith, so .within) in
+      let k : s < 16 = omega (arith, so .within, lends .few) in
       got rule (ap faulty (any-default at s y nought (omega arith)) ∙ base-sound fs (viewAt v s) (getD at s nought) (so-far v n fs f (p .stop) at s a h))
       ∙ ap fractionOf reads
 
   pub factor-on : (u : Exponent) → term ≡ Exact u → Adding v n fs f (p .stop) (set at s u) (s + 1)
-  factor-on u e = adding-on v n fs f (p .stop) at s a h (so .within) (omega (arith, so .within)) u (exact-given _ u (sym is-term ∙ e))
+  factor-on u e = adding-on v n fs f (p .stop) at s a h (so .within) (omega (arith, so .within, lends .few)) u (exact-given _ u (sym is-term ∙ e))
 
   pub factor-off : (m : ℕ) → term ≡ Refused m → Summed v n (fs ++ (f ∷ [])) (record { at = at; stop = s; refusal = m })
   factor-off m e = adding-off v n fs f (p .stop) at s a h (so .within) m (refused-refuses _ m (sym is-term ∙ e))
@@ -152,18 +149,6 @@ module _ (v : View) (n : ℕ) (fs gs : List Factor) (p : Partial) where
 
   pub along-end : (i : ℕ) → length gs ≤ i → Summed v n (fs ++ take i gs) p → Summed v n (fs ++ gs) p
   along-end i k h = subst (λ l. Summed v n (fs ++ l) p) (take-all i gs k) h
-
--- faults of joined lists
-module _ {A : Type 0} (fault : A → Bool) where
-  pub some-left : (fs gs : List A) → some fault (fs ++ gs) ≡ false → some fault fs ≡ false
-  unfolding some
-  some-left [] gs e = refl
-  some-left (f ∷ fs) gs e = rw (or-left (fault f) (some fault (fs ++ gs)) e) (some-left fs gs (or-right (fault f) (some fault (fs ++ gs)) e))
-
-  pub some-right : (fs gs : List A) → some fault (fs ++ gs) ≡ false → some fault gs ≡ false
-  unfolding some
-  some-right [] gs e = e
-  some-right (f ∷ fs) gs e = some-right fs gs (or-right (fault f) (some fault (fs ++ gs)) e)
 
 -- ---- the answer
 module _ {A B : Type 0} (f : B → Outcome A) (g : ℕ → B) (d : A) where

@@ -7,8 +7,8 @@ use native.Mathlib.Omega.{arith}
 use lib.ListN.{length, drop, getD, replicate, drop-of-length-le}
 use Rattle.exponents.specs.Fractions.{nought, sameZ, same}
 use Rattle.exponents.specs.declared.Exponent.{Exponent}
-use Rattle.tables.specs.Rows.{packExps}
-use Rattle.tables.proofs.Places.{rest}
+use Rattle.tables.specs.Held.{packExps}
+use Rattle.exponents.proofs.Places.{rest}
 use Rattle.canonical.specs.Canonical.{sameAll, allNought}
 
 module _ (a b : List Exponent) (i : ℕ) (so-far : sameAll a b ≡ sameAll (drop i a) (drop i b)) where

@@ -2,25 +2,26 @@
 use mathlib.Core.Path.{_≡_, refl}
 use mathlib.Core.Bool.{Bool, true, false}
 use mathlib.Core.List.{List, [], _∷_, map}
-use Prim.Native.Nat.{ℕ}
-use lib.Dec.{ltb}
+use Prim.Native.Nat.{ℕ, compare}
+use lib.Dec.{ltb, eqb}
 use lib.IntN.{ℤ, pos, negsuc}
-use lib.Ieee.{Float, nan, mul, div, eq, le, toBits, ofBits}
-use lib.Ieee as ieee
+use lib.Ieee.{Float, binary64, nan, mul, div, eq, le, toBits, ofBits}
 use lib.ListN.{getD}
-use Rattle.exponents.specs.Outcome.{Outcome, given, refused, RANGE, FRACTION, each}
-use Rattle.exponents.specs.Outcome as outcome
-use Rattle.exponents.specs.Fractions.{worked}
+use Rattle.exponents.specs.Outcome.{Outcome, given, refused, RANGE, FRACTION, each, apply}
+use Rattle.exponents.specs.Fractions.{nought}
+use Rattle.exponents.specs.Held.{worked}
 use Rattle.exponents.specs.declared.Exponent.{Exponent}
 use Rattle.floats.specs.Power.{one, bitsOf, raise, power}
 use Rattle.units.specs.declared.Prefix.the-variants.{Metric}
 use Rattle.units.specs.declared.Factor.{Factor}
 use Rattle.tables.specs.declared.Slot.{Slot}
+use Rattle.keys.specs.Key.{first}
 use Rattle.tables.specs.Lists.{baseAt, base}
-use Rattle.tables.specs.Scale.{raise as raisedBy, raisedTo, scaleFrom, sizeBy}
+use Rattle.tables.specs.Scale.{doubles, raise as raisedBy, raisedTo, scaleFrom, sizeBy}
+use Rattle.tables.specs.Order.{order}
+use Rattle.tables.specs.Rules.{Rules}
 use Rattle.tables.specs.Rows.{places}
-use Rattle.tables.specs.Items.{View, viewBases}
-use Rattle.canonical.specs.Canonical.{unless, nonzero, sameAll, allNought}
+use Rattle.canonical.specs.Canonical.{dropIf, nonzero, sameAll, allNought}
 use Rattle.reduction.specs.Reduction.{baseFactors, reduced, reduction, reducedScale, smallerUnit}
 use Rattle.reduction.specs.Multiple.{Maybe, times, none, firstBase, fits, multipleOf, isMultiple}
 
@@ -32,19 +33,22 @@ abbrev by : ℤ → ℤ → ℤ → List Exponent
 by g m s = over g 1 ∷ over m 1 ∷ over s 1 ∷ []
 
 abbrev float : ℕ → Float
-float n = ofBits ieee.binary64 n
+float n = ofBits binary64 n
 
-abbrev seen : View
-seen = record {
-  exps = λ r. getD (by (pos 1) (pos 0) (pos 0) ∷ by (pos 0) (pos 1) (pos 0) ∷ by (pos 0) (pos 0) (pos 1) ∷ by (pos 1) (pos 1) (negsuc 1) ∷ by (pos 0) (pos 0) (pos 1) ∷ by (pos 0) (pos 0) (pos 1) ∷ by (pos 0) (pos 0) (pos 0) ∷ []) r [];
-  scale = λ r. getD (one ∷ one ∷ one ∷ float 0x408f_4000_0000_0000 ∷ float 0x404e_0000_0000_0000 ∷ float 0x40ac_2000_0000_0000 ∷ nan ∷ []) r nan;
-  place = λ r. r;
-  class = λ r. r;
-  base = λ r. ltb r 3;
+abbrev exps : ℕ → List Exponent
+exps r = getD (by (pos 1) (pos 0) (pos 0) ∷ by (pos 0) (pos 1) (pos 0) ∷ by (pos 0) (pos 0) (pos 1) ∷ by (pos 1) (pos 1) (negsuc 1) ∷ by (pos 0) (pos 0) (pos 1) ∷ by (pos 0) (pos 0) (pos 1) ∷ by (pos 0) (pos 0) (pos 0) ∷ []) r []
+
+-- base rows and sizes are all that is looked at
+abbrev rules : Rules Float
+rules = record {
+  order = order compare;
+  bases = map (λ j r. getD (exps r) j nought) (places 0 3);
+  numbers = doubles;
+  size = sizeBy (λ r. getD (one ∷ one ∷ one ∷ float 0x408f_4000_0000_0000 ∷ float 0x404e_0000_0000_0000 ∷ float 0x40ac_2000_0000_0000 ∷ nan ∷ []) r nan);
+  alike = eqb;
+  isBase = λ r. ltb r 3;
+  lead = λ r. first (exps r);
 }
-
-abbrev bs : List (ℕ → Exponent)
-bs = viewBases seen 3
 
 abbrev slots : List Slot
 slots = record { row = 0; rank = 2 } ∷ record { row = 1; rank = 5 } ∷ record { row = 2; rank = 7 } ∷ []
@@ -61,7 +65,7 @@ abbrev Row : Type 0
 Row = List Factor × Outcome (List Factor × ℕ)
 
 abbrev reducedAs : List Factor → Outcome (List Factor × ℕ)
-reducedAs l = outcome.map (λ (p : List Factor × Float). (p .0, toBits ieee.binary64 (p .1))) (reduction bs (sizeBy (seen .scale)) slots l)
+reducedAs l = apply (λ (p : List Factor × Float). (p .0, toBits binary64 (p .1))) (reduction rules slots l)
 
 -- newton; its half, which isn't whole, and that of a millinewton, which is exactly 1; kilometre per hour; minute squared; what cancels, and the scalar; RANGE before FRACTION
 lists : List Row
@@ -77,7 +81,7 @@ lists =
     ∷ []
 
 reductions-known : map (λ (r : Row). reducedAs (r .0)) lists ≡ map (λ (r : Row). r .1) lists
-unfolding lists worked each baseAt base places raisedBy raisedTo scaleFrom power raise bitsOf mul div eq toBits ofBits unless nonzero baseFactors reduced reduction
+unfolding lists worked each baseAt base places raisedBy raisedTo scaleFrom power raise bitsOf mul div eq toBits ofBits dropIf nonzero baseFactors reduced reduction
 reductions-known = refl
 
 -- ---- is the first unit's scale at most the second's?
@@ -96,7 +100,7 @@ pairs =
     ∷ ((to 4 (pos 1) ∷ [], with (pos 0) 3 (pos 1) 2 ∷ to 1 (pos 2147483647) ∷ []), refused RANGE)
     ∷ []
 
-smaller-known : map (λ (r : Pair × Outcome Bool). smallerUnit bs (sizeBy (seen .scale)) (r .0 .0) (r .0 .1)) pairs ≡ map (λ (r : Pair × Outcome Bool). r .1) pairs
+smaller-known : map (λ (r : Pair × Outcome Bool). smallerUnit rules (r .0 .0) (r .0 .1)) pairs ≡ map (λ (r : Pair × Outcome Bool). r .1) pairs
 unfolding pairs worked each baseAt base places raisedBy raisedTo scaleFrom power raise bitsOf mul div eq le ofBits reducedScale smallerUnit
 smaller-known = refl
 
@@ -128,6 +132,6 @@ multiples-of =
     ∷ ((with (pos 0) 3 (pos 1) 2 ∷ [], to 3 (pos 1) ∷ []), part (pos 1) 2)
     ∷ []
 
-multiples-known : map (λ (r : Pair × Outcome Maybe). isMultiple bs (r .0 .0) (r .0 .1)) multiples-of ≡ map (λ (r : Pair × Outcome Maybe). r .1) multiples-of
+multiples-known : map (λ (r : Pair × Outcome Maybe). isMultiple (rules .bases) (r .0 .0) (r .0 .1)) multiples-of ≡ map (λ (r : Pair × Outcome Maybe). r .1) multiples-of
 unfolding multiples-of worked each baseAt base places sameAll allNought firstBase fits multipleOf isMultiple
 multiples-known = refl

@@ -5,8 +5,9 @@ use mathlib.Core.List.{List, [], _∷_}
 use Prim.Native.Nat.{ℕ, suc, _+_, _≤_, _<_}
 use native.Mathlib.Omega.{arith}
 use lib.ListN.{length, drop, getD, drop-of-length-le}
-use Rattle.exponents.specs.Outcome.{Outcome, given, refused, map, bind, each}
-use Rattle.exponents.specs.Fractions.{nought, unit, same, faulty, invert, div, ranged, mul?, div?, fractionOf}
+use Rattle.exponents.specs.Outcome.{Outcome, given, refused, apply, bind, each}
+use Rattle.exponents.specs.Fractions.{nought, unit, same, faulty, invert, div, ranged, mul?, div?}
+use Rattle.exponents.specs.Held.{fractionOf}
 use Rattle.exponents.specs.declared.Exponent.{Exponent}
 use Rattle.exponents.specs.declared.Fraction.{Fraction}
 use Rattle.exponents.specs.declared.Fraction.the-variants.{Exact, Refused}
@@ -16,8 +17,8 @@ use Rattle.exponents.proofs.Exact.{nought-times}
 use Rattle.exponents.proofs.InRange.{ranged-given, sound}
 use Rattle.exponents.proofs.Equality.{same-is}
 use Rattle.exponents.proofs.Sound.{mul-sound}
-use Rattle.tables.specs.Rows.{pick}
-use Rattle.tables.proofs.Places.{rest}
+use Rattle.exponents.specs.Words.{pick}
+use Rattle.exponents.proofs.Places.{rest}
 use Rattle.tables.proofs.Sound.{nought-sound}
 use Rattle.canonical.specs.Canonical.{sameAll, allNought}
 use Rattle.canonical.proofs.Packs.{any-default}
@@ -80,7 +81,7 @@ quotient-sound x y q e = take-out (mul-sound x (invert y)) e
 
 -- ---- the products, from left to right: t tells whether those before were a's
 abbrev pub fitsFrom : Bool → List Exponent → List Exponent → Exponent → Outcome Maybe
-fitsFrom t xs ys q = map (λ zs. pick (t && sameAll zs xs) (times q) none) (each (λ y. mul? y q) ys)
+fitsFrom t xs ys q = apply (λ zs. pick (t && sameAll zs xs) (times q) none) (each (λ y. mul? y q) ys)
 
 pub fits-start : (xs ys : List Exponent) (q : Exponent) → fitsFrom true xs ys q ≡ fits xs ys q
 unfolding fits
@@ -98,7 +99,7 @@ pub fits-cons : (t : Bool) (x : Exponent) (xs : List Exponent) (y : Exponent) (y
 unfolding each bind sameAll
 fits-cons t x xs y ys q = go (mul? y q) (each (λ y. mul? y q) ys)
   where
-    go : (o : Outcome Exponent) (p : Outcome (List Exponent)) → map (λ zs. pick (t && sameAll zs (x ∷ xs)) (times q) none) (bind o (λ b. map (λ m. b ∷ m) p)) ≡ bind o (λ w. map (λ zs. pick ((t && same w x) && sameAll zs xs) (times q) none) p)
+    go : (o : Outcome Exponent) (p : Outcome (List Exponent)) → apply (λ zs. pick (t && sameAll zs (x ∷ xs)) (times q) none) (bind o (λ b. apply (λ m. b ∷ m) p)) ≡ bind o (λ w. apply (λ zs. pick ((t && same w x) && sameAll zs xs) (times q) none) p)
     go (refused r) p = refl
     go (given w) (refused r) = refl
     go (given w) (given zs) = ap (λ b. given (pick b (times q) none)) (and-assoc t (same w x) (sameAll zs xs))

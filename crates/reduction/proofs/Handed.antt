@@ -10,9 +10,9 @@ use Rattle.exponents.proofs.Numbers.{Refuses, struct-answers, struct-refuses}
 use Rattle.units.specs.declared.Factor.{Factor}
 use Rattle.tables.specs.declared.rows.Exps.{Exps}
 use Rattle.tables.specs.Lists.{baseAt, base}
-use Rattle.tables.specs.Rows.{places, packExps, expsOf}
-use Rattle.tables.specs.Items.{View, viewAt, viewBases}
-use Rattle.tables.proofs.Each.{each-holds, along-length}
+use Rattle.tables.specs.Rows.{places}
+use Rattle.tables.specs.Held.{packExps, expsOf, View, viewAt, viewBases}
+use Rattle.exponents.proofs.Each.{each-holds, along-length}
 
 -- o answers, and the code has its answer
 pub record Answered (o : Outcome (List Exponent)) (x : Exps) : Type 0 where

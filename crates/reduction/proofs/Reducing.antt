@@ -1,14 +1,15 @@
 -- Reduction as the code works it out: one base row more, and the answers of `reduce_list` and `smaller_unit`.
-use mathlib.Core.Path.{_≡_, refl, sym, ap, ap₂, _∙_}
+use mathlib.Core.Path.{_≡_, refl, sym, ap, ap₂, subst, _∙_}
 use mathlib.Core.Bool.{Bool, true, false}
 use mathlib.Core.List.{List, [], _∷_, _++_, append-nil}
-use Prim.Native.Nat.{ℕ, suc, _+_, _-_, _≤_, _<_}
+use Prim.Native.Nat.{ℕ, _+_, _-_, _≤_, _<_}
 use native.Mathlib.Omega.{arith}
 use native.Mathlib.Numerals.{add-one}
+use lib.IntN.{ℤ}
 use lib.Ieee.{Float, le}
 use lib.ListN.{length, take, getD, replicate}
 use lib.Seq.{take-suc, take-append-seam, length-take-le}
-use Rattle.exponents.specs.Outcome.{given, map}
+use Rattle.exponents.specs.Outcome.{given, apply}
 use Rattle.exponents.specs.Fractions.{nought, same}
 use Rattle.exponents.specs.declared.Exponent.{Exponent}
 use Rattle.exponents.proofs.Holds.{bind-given, bind-refused}
@@ -22,22 +23,23 @@ use Rattle.tables.specs.declared.Slots.{Slots}
 use Rattle.tables.specs.declared.rows.Exps.{Exps}
 use Rattle.tables.specs.declared.scales.Scaled.the-variants.{Value, Refused}
 use Rattle.tables.specs.Lists.{base}
-use Rattle.tables.specs.Scale.{binary64, scale}
-use Rattle.tables.specs.Rows.{packSlots, packExps, expsOf, scaledOf}
-use Rattle.tables.specs.Items.{View, viewBases}
+use Rattle.tables.specs.Rules.{Rules, scaleBy}
+use Rattle.tables.specs.Held.{packSlots, packExps, expsOf, scaledOf, View, viewBases, Lends}
 use Rattle.tables.proofs.Placing.{len-slots}
 use Rattle.tables.proofs.Scaling.{value-given, scale-refuses}
-use Rattle.canonical.specs.Canonical.{unless, nonzero}
-use Rattle.reduction.specs.Reduction.{baseFactor, baseFactors, reduced, reduction, reducedScale, smallerUnit, notReduced, reducedOf, smallerOf}
+use Rattle.canonical.specs.Canonical.{dropIf, nonzero}
+use Rattle.canonical.proofs.Judged.{nonzero-short}
+use Rattle.reduction.specs.Reduction.{baseFactor, baseFactors, reduced, reduction, reducedScale, smallerUnit, notReduced, reducedOf}
+use Rattle.reduction.specs.Held.{smallerOf}
 use Rattle.reduction.specs.declared.reduce.Smaller.the-variants.{First, Second, Refused as NoSmaller}
 
 -- ---- one base row more
 nonzero-join : (l m : List Factor) → nonzero (l ++ m) ≡ nonzero l ++ nonzero m
-unfolding nonzero unless
+unfolding nonzero dropIf
 nonzero-join [] m = refl
-nonzero-join (f ∷ l) m = ap (unless (same (f .exponent) nought) f) (nonzero-join l m) ∙ kept (same (f .exponent) nought)
+nonzero-join (f ∷ l) m = ap (dropIf (same (f .exponent) nought) f) (nonzero-join l m) ∙ kept (same (f .exponent) nought)
   where
-    kept : (t : Bool) → unless t f (nonzero l ++ nonzero m) ≡ unless t f (nonzero l) ++ nonzero m
+    kept : (t : Bool) → dropIf t f (nonzero l ++ nonzero m) ≡ dropIf t f (nonzero l) ++ nonzero m
     kept true = refl
     kept false = refl
 
@@ -58,12 +60,12 @@ module _ (at : List Slot) (es : List Exponent) (i : ℕ) (s : Slot) (d : Exponen
       ∙ nonzero-join (baseFactors (take i at) es) _
 
   pub slot-on : same (getD es i d) nought ≡ false → reduced (take (i + 1) at) es ≡ reduced (take i at) es ++ (baseFactor (getD at i s) (getD es i d) ∷ [])
-  unfolding nonzero unless
-  slot-on e = more ∙ ap (λ t. reduced (take i at) es ++ unless t (baseFactor (getD at i s) (getD es i d)) []) e
+  unfolding nonzero dropIf
+  slot-on e = more ∙ ap (λ t. reduced (take i at) es ++ dropIf t (baseFactor (getD at i s) (getD es i d)) []) e
 
   pub slot-skip : same (getD es i d) nought ≡ true → reduced (take (i + 1) at) es ≡ reduced (take i at) es
-  unfolding nonzero unless
-  slot-skip e = more ∙ ap (λ t. reduced (take i at) es ++ unless t (baseFactor (getD at i s) (getD es i d)) []) e ∙ append-nil (reduced (take i at) es)
+  unfolding nonzero dropIf
+  slot-skip e = more ∙ ap (λ t. reduced (take i at) es ++ dropIf t (baseFactor (getD at i s) (getD es i d)) []) e ∙ append-nil (reduced (take i at) es)
 
   -- the code's turn: `push` gave o′ for the factor f
   pub pushed : (o : Factors) → o ≡ pack (reduced (take i at) es) → (f : Factor) → f ≡ baseFactor (getD at i s) (getD es i d) → (o′ : Factors) → ((fs : List Factor) → o ≡ pack fs → o′ ≡ pack (fs ++ (f ∷ [])))
@@ -73,15 +75,6 @@ module _ (at : List Slot) (es : List Exponent) (i : ℕ) (s : Slot) (d : Exponen
 pub none-reduced : (at : List Slot) (es : List Exponent) (o : Factors) → o ≡ pack [] → o ≡ pack (reduced (take 0 at) es)
 unfolding reduced baseFactors nonzero
 none-reduced at es o e = e
-
-nonzero-short : (l : List Factor) → length (nonzero l) ≤ length l
-unfolding nonzero unless
-nonzero-short [] = omega arith
-nonzero-short (f ∷ l) = kept (same (f .exponent) nought) (nonzero-short l)
-  where
-    kept : (t : Bool) → length (nonzero l) ≤ length l → length (unless t f (nonzero l)) ≤ suc (length l)
-    kept true h = omega arith
-    kept false h = omega arith
 
 zip-short : (ss : List Slot) (es : List Exponent) → length (baseFactors ss es) ≤ length ss
 unfolding baseFactors
@@ -121,59 +114,63 @@ reduced-packed slots ss at es p q n =
 pub slots-exps : (v : View) (slots : Slots) (ss : List Slot) → slots ≡ packSlots ss → (fs : List Factor) (x : Exps) → x ≡ expsOf (base (viewBases v (slots .len)) fs) → x ≡ expsOf (base (viewBases v (length ss)) fs)
 slots-exps v slots ss p fs x e = e ∙ ap (λ n. expsOf (base (viewBases v n) fs)) (len-slots slots ss p)
 
-module _ (bs : List (ℕ → Exponent)) (size : Factor → Float) where
+pub slots-lend : (v : View) (slots : Slots) (ss : List Slot) → slots ≡ packSlots ss → {nums : List ℤ} {dens : List ℕ} → Lends v (length ss) nums dens → Lends v (slots .len) nums dens
+slots-lend v slots ss p {nums} {dens} h = subst (λ n. Lends v n nums dens) (sym (len-slots slots ss p)) h
+
+-- by the rules R
+module _ (R : Rules Float) where
   module _ (ss : List Slot) (l : List Factor) where
     -- the base exponents refuse
-    pub reduction-range : (n : ℕ) → Refuses (base bs l) n → notReduced n ≡ reducedOf (reduction bs size ss l)
+    pub reduction-range : (n : ℕ) → Refuses (base (R .bases) l) n → notReduced n ≡ reducedOf (reduction R ss l)
     unfolding reduction
     reduction-range n r = ap notReduced (sym (r .numbered)) ∙ sym (ap reducedOf (bind-refused _ (r .is)))
 
-    module _ (es : List Exponent) (e : base bs l ≡ given es) where
-      opened : reduction bs size ss l ≡ map (λ s. (reduced ss es, s)) (scale binary64 size l)
+    module _ (es : List Exponent) (e : base (R .bases) l ≡ given es) where
+      opened : reduction R ss l ≡ apply (λ s. (reduced ss es, s)) (scaleBy R l)
       unfolding reduction
       opened = bind-given _ e
 
       -- the scale refuses
-      pub reduction-fraction : (n : ℕ) → scaledOf (scale binary64 size l) ≡ Refused n → notReduced n ≡ reducedOf (reduction bs size ss l)
+      pub reduction-fraction : (n : ℕ) → scaledOf (scaleBy R l) ≡ Refused n → notReduced n ≡ reducedOf (reduction R ss l)
       reduction-fraction n q =
-          let r = scale-refuses (scale binary64 size l) n q in
-          ap notReduced (sym (r .numbered)) ∙ sym (ap reducedOf (opened ∙ ap (map (λ s. (reduced ss es, s))) (r .is)))
+          let r = scale-refuses (scaleBy R l) n q in
+          ap notReduced (sym (r .numbered)) ∙ sym (ap reducedOf (opened ∙ ap (apply (λ s. (reduced ss es, s))) (r .is)))
 
-      pub reduction-given : (u : Factors) (s : Float) → u ≡ pack (reduced ss es) → scaledOf (scale binary64 size l) ≡ Value s → record { unit = u; scale = s; refusal = 0 } ≡ reducedOf (reduction bs size ss l)
+      pub reduction-given : (u : Factors) (s : Float) → u ≡ pack (reduced ss es) → scaledOf (scaleBy R l) ≡ Value s → record { unit = u; scale = s; refusal = 0 } ≡ reducedOf (reduction R ss l)
       reduction-given u s p q =
           ap (λ (u : Factors). record { unit = u; scale = s; refusal = 0 }) p
-          ∙ sym (ap reducedOf (opened ∙ ap (map (λ s. (reduced ss es, s))) (value-given (scale binary64 size l) s q)))
+          ∙ sym (ap reducedOf (opened ∙ ap (apply (λ s. (reduced ss es, s))) (value-given (scaleBy R l) s q)))
 
   -- ---- the scale of a reduced list
   module _ (l : List Factor) where
-    pub scale-range : (n : ℕ) → Refuses (base bs l) n → Refused n ≡ scaledOf (reducedScale bs size l)
+    pub scale-range : (n : ℕ) → Refuses (base (R .bases) l) n → Refused n ≡ scaledOf (reducedScale R l)
     unfolding reducedScale
     scale-range n r = ap Refused (sym (r .numbered)) ∙ sym (ap scaledOf (bind-refused _ (r .is)))
 
-    pub scale-after : (es : List Exponent) → base bs l ≡ given es → scaledOf (scale binary64 size l) ≡ scaledOf (reducedScale bs size l)
+    pub scale-after : (es : List Exponent) → base (R .bases) l ≡ given es → scaledOf (scaleBy R l) ≡ scaledOf (reducedScale R l)
     unfolding reducedScale
     scale-after es e = sym (ap scaledOf (bind-given _ e))
 
   -- ---- which is smaller
   module _ (l m : List Factor) where
-    pub first-refused : (n : ℕ) → scaledOf (reducedScale bs size l) ≡ Refused n → NoSmaller n ≡ smallerOf (smallerUnit bs size l m)
+    pub first-refused : (n : ℕ) → scaledOf (reducedScale R l) ≡ Refused n → NoSmaller n ≡ smallerOf (smallerUnit R l m)
     unfolding smallerUnit
-    first-refused n e = let r = scale-refuses (reducedScale bs size l) n e in ap NoSmaller (sym (r .numbered)) ∙ sym (ap smallerOf (bind-refused _ (r .is)))
+    first-refused n e = let r = scale-refuses (reducedScale R l) n e in ap NoSmaller (sym (r .numbered)) ∙ sym (ap smallerOf (bind-refused _ (r .is)))
 
-    module _ (s : Float) (e : scaledOf (reducedScale bs size l) ≡ Value s) where
-      compared : smallerUnit bs size l m ≡ map (le s) (reducedScale bs size m)
+    module _ (s : Float) (e : scaledOf (reducedScale R l) ≡ Value s) where
+      compared : smallerUnit R l m ≡ apply (le s) (reducedScale R m)
       unfolding smallerUnit
-      compared = bind-given _ (value-given (reducedScale bs size l) s e)
+      compared = bind-given _ (value-given (reducedScale R l) s e)
 
-      pub second-refused : (n : ℕ) → scaledOf (reducedScale bs size m) ≡ Refused n → NoSmaller n ≡ smallerOf (smallerUnit bs size l m)
-      second-refused n q = let r = scale-refuses (reducedScale bs size m) n q in ap NoSmaller (sym (r .numbered)) ∙ sym (ap smallerOf (compared ∙ ap (map (le s)) (r .is)))
+      pub second-refused : (n : ℕ) → scaledOf (reducedScale R m) ≡ Refused n → NoSmaller n ≡ smallerOf (smallerUnit R l m)
+      second-refused n q = let r = scale-refuses (reducedScale R m) n q in ap NoSmaller (sym (r .numbered)) ∙ sym (ap smallerOf (compared ∙ ap (apply (le s)) (r .is)))
 
-      module _ (t : Float) (q : scaledOf (reducedScale bs size m) ≡ Value t) where
-        decided : (b : Bool) → le s t ≡ b → smallerUnit bs size l m ≡ given b
-        decided b h = compared ∙ ap (map (le s)) (value-given (reducedScale bs size m) t q) ∙ ap given h
+      module _ (t : Float) (q : scaledOf (reducedScale R m) ≡ Value t) where
+        decided : (b : Bool) → le s t ≡ b → smallerUnit R l m ≡ given b
+        decided b h = compared ∙ ap (apply (le s)) (value-given (reducedScale R m) t q) ∙ ap given h
 
-        pub first-smaller : le s t ≡ true → First ≡ smallerOf (smallerUnit bs size l m)
+        pub first-smaller : le s t ≡ true → First ≡ smallerOf (smallerUnit R l m)
         first-smaller h = sym (ap smallerOf (decided true h))
 
-        pub second-smaller : le s t ≡ false → Second ≡ smallerOf (smallerUnit bs size l m)
+        pub second-smaller : le s t ≡ false → Second ≡ smallerOf (smallerUnit R l m)
         second-smaller h = sym (ap smallerOf (decided false h))

@@ -5,13 +5,11 @@ use mathlib.Core.List.{List, [], _∷_, _++_, map}
 use Prim.Native.Nat.{ℕ, _+_, _-_, _≤_, _<_}
 use native.Mathlib.Omega.{arith}
 use lib.ListN.{length, drop, getD, replicate, length-map, List·getD-append}
-use lib.Ieee.{Float, nan, mul}
-use lib.Ieee as ieee
+use lib.Ieee.{Float, binary64, nan, mul}
 use Rattle.exponents.specs.Outcome.{Outcome, bind}
-use Rattle.exponents.specs.Fractions.{nought, faulty}
-use Rattle.exponents.specs.declared.Exponent.{Exponent}
+use Rattle.exponents.specs.Fractions.{faulty}
 use Rattle.exponents.proofs.Holds.{bind-given, bind-refused}
-use Rattle.exponents.proofs.Summing.{bind-assoc}
+use Rattle.exponents.proofs.Following.{bind-bind}
 use Rattle.units.specs.declared.Factor.{Factor}
 use Rattle.units.specs.Prefixes.{factorOf}
 use Rattle.units.specs.Lists.{some, factorFault}
@@ -20,11 +18,9 @@ use Rattle.units.proofs.Sound.{exponent-sound}
 use Rattle.tables.specs.declared.Item.{Item}
 use Rattle.tables.specs.declared.Items.{Items}
 use Rattle.tables.specs.declared.scales.Scaled.the-variants.{Value, Refused}
-use Rattle.tables.specs.Scale.{Numbers, binary64, raisedTo, scaleFrom, sizeBy}
-use Rattle.tables.specs.Rows.{scaledOf}
-use Rattle.tables.specs.Items.{View, viewAt, itemOf, noItem, packItems}
+use Rattle.tables.specs.Scale.{Numbers, doubles, raisedTo, scaleFrom, sizeBy}
+use Rattle.tables.specs.Held.{scaledOf, View, itemOf, noItem, packItems}
 use Rattle.tables.proofs.Terms.{nilFactor, get-map}
-use Rattle.canonical.proofs.Packs.{any-default}
 use Rattle.tables.proofs.Scaling.{scale-on, scale-off, scale-end, value-given, scale-refuses}
 
 -- what a read past the end of an array gives: never met
@@ -50,28 +46,28 @@ sound-at fs i f h e = exponent-sound (getD fs i f) (none-at factorFault fs i f h
 
 -- ---- the scale of a resolved list: one factor more. `it` is the item read, p its prefix's factor
 module _ (v : View) (fs : List Factor) (i : ℕ) (f : Factor) (h : i < length fs) (it : Item) (is : it ≡ itemOf v (getD fs i f)) (p : Float) (prefix : p ≡ factorOf (it .factor .prefix))
-    (start acc : Float) (so-far : scaleFrom binary64 (sizeBy (v .scale)) acc (drop i fs) ≡ scaleFrom binary64 (sizeBy (v .scale)) start fs) where
+    (start acc : Float) (so-far : scaleFrom doubles (sizeBy (v .scale)) acc (drop i fs) ≡ scaleFrom doubles (sizeBy (v .scale)) start fs) where
   -- what the code has raised
   abbrev power : Outcome Float
-  power = raisedTo binary64 (mul ieee.binary64 p (it .scale)) (it .factor .exponent)
+  power = raisedTo doubles (mul binary64 p (it .scale)) (it .factor .exponent)
 
-  there : power ≡ raisedTo binary64 (sizeBy (v .scale) (getD fs i f)) (getD fs i f .exponent)
+  there : power ≡ raisedTo doubles (sizeBy (v .scale) (getD fs i f)) (getD fs i f .exponent)
   there =
-      ap (λ (p : Float). raisedTo binary64 (mul ieee.binary64 p (it .scale)) (it .factor .exponent)) prefix
-      ∙ ap (λ (it : Item). raisedTo binary64 (mul ieee.binary64 (factorOf (it .factor .prefix)) (it .scale)) (it .factor .exponent)) is
+      ap (λ (p : Float). raisedTo doubles (mul binary64 p (it .scale)) (it .factor .exponent)) prefix
+      ∙ ap (λ (it : Item). raisedTo doubles (mul binary64 (factorOf (it .factor .prefix)) (it .scale)) (it .factor .exponent)) is
 
-  pub item-on : (w : Float) → scaledOf power ≡ Value w → scaleFrom binary64 (sizeBy (v .scale)) (mul ieee.binary64 acc w) (drop (i + 1) fs) ≡ scaleFrom binary64 (sizeBy (v .scale)) start fs
-  item-on w e = sym (scale-on binary64 (sizeBy (v .scale)) fs acc i f h w (sym there ∙ value-given power w e)) ∙ so-far
+  pub item-on : (w : Float) → scaledOf power ≡ Value w → scaleFrom doubles (sizeBy (v .scale)) (mul binary64 acc w) (drop (i + 1) fs) ≡ scaleFrom doubles (sizeBy (v .scale)) start fs
+  item-on w e = sym (scale-on doubles (sizeBy (v .scale)) fs acc i f h w (sym there ∙ value-given power w e)) ∙ so-far
 
-  pub item-off : (n : ℕ) → scaledOf power ≡ Refused n → Refused n ≡ scaledOf (scaleFrom binary64 (sizeBy (v .scale)) start fs)
+  pub item-off : (n : ℕ) → scaledOf power ≡ Refused n → Refused n ≡ scaledOf (scaleFrom doubles (sizeBy (v .scale)) start fs)
   item-off n e =
       let r = scale-refuses power n e in
-      ap Refused (sym (r .numbered)) ∙ sym (ap scaledOf (sym so-far ∙ scale-off binary64 (sizeBy (v .scale)) fs acc i f h (r .why) (sym there ∙ r .is)))
+      ap Refused (sym (r .numbered)) ∙ sym (ap scaledOf (sym so-far ∙ scale-off doubles (sizeBy (v .scale)) fs acc i f h (r .why) (sym there ∙ r .is)))
 
 pub items-end : (v : View) (fs : List Factor) (i : ℕ) (start acc : Float) → length fs ≤ i
-    → scaleFrom binary64 (sizeBy (v .scale)) acc (drop i fs) ≡ scaleFrom binary64 (sizeBy (v .scale)) start fs
-    → Value acc ≡ scaledOf (scaleFrom binary64 (sizeBy (v .scale)) start fs)
-items-end v fs i start acc h so-far = sym (ap scaledOf (sym so-far ∙ scale-end binary64 (sizeBy (v .scale)) fs acc i h))
+    → scaleFrom doubles (sizeBy (v .scale)) acc (drop i fs) ≡ scaleFrom doubles (sizeBy (v .scale)) start fs
+    → Value acc ≡ scaledOf (scaleFrom doubles (sizeBy (v .scale)) start fs)
+items-end v fs i start acc h so-far = sym (ap scaledOf (sym so-far ∙ scale-end doubles (sizeBy (v .scale)) fs acc i h))
 
 -- ---- the scale of joined lists
 module _ {R : Type 0} (N : Numbers R) (size : Factor → R) where
@@ -80,11 +76,11 @@ module _ {R : Type 0} (N : Numbers R) (size : Factor → R) where
   scale-join s [] gs = refl
   scale-join s (f ∷ fs) gs =
       ap (bind (raisedTo N (size f) (f .exponent))) (λ i p. scale-join (N .times s p) fs gs i)
-      ∙ sym (bind-assoc (raisedTo N (size f) (f .exponent)) (λ p. scaleFrom N size (N .times s p) fs) (λ t. scaleFrom N size t gs))
+      ∙ sym (bind-bind (raisedTo N (size f) (f .exponent)) (λ p. scaleFrom N size (N .times s p) fs) (λ t. scaleFrom N size t gs))
 
 module _ (v : View) (fs gs : List Factor) (s : Float) where
-  pub joined-on : (w : Float) → scaledOf (scaleFrom binary64 (sizeBy (v .scale)) s fs) ≡ Value w → scaledOf (scaleFrom binary64 (sizeBy (v .scale)) w gs) ≡ scaledOf (scaleFrom binary64 (sizeBy (v .scale)) s (fs ++ gs))
-  joined-on w e = sym (ap scaledOf (scale-join binary64 (sizeBy (v .scale)) s fs gs ∙ bind-given _ (value-given _ w e)))
+  pub joined-on : (w : Float) → scaledOf (scaleFrom doubles (sizeBy (v .scale)) s fs) ≡ Value w → scaledOf (scaleFrom doubles (sizeBy (v .scale)) w gs) ≡ scaledOf (scaleFrom doubles (sizeBy (v .scale)) s (fs ++ gs))
+  joined-on w e = sym (ap scaledOf (scale-join doubles (sizeBy (v .scale)) s fs gs ∙ bind-given _ (value-given _ w e)))
 
-  pub joined-off : (n : ℕ) → scaledOf (scaleFrom binary64 (sizeBy (v .scale)) s fs) ≡ Refused n → Refused n ≡ scaledOf (scaleFrom binary64 (sizeBy (v .scale)) s (fs ++ gs))
-  joined-off n e = let r = scale-refuses _ n e in ap Refused (sym (r .numbered)) ∙ sym (ap scaledOf (scale-join binary64 (sizeBy (v .scale)) s fs gs ∙ bind-refused _ (r .is)))
+  pub joined-off : (n : ℕ) → scaledOf (scaleFrom doubles (sizeBy (v .scale)) s fs) ≡ Refused n → Refused n ≡ scaledOf (scaleFrom doubles (sizeBy (v .scale)) s (fs ++ gs))
+  joined-off n e = let r = scale-refuses _ n e in ap Refused (sym (r .numbered)) ∙ sym (ap scaledOf (scale-join doubles (sizeBy (v .scale)) s fs gs ∙ bind-refused _ (r .is)))

@@ -12,7 +12,8 @@ use Rattle.exponents.proofs.Holds.{bind-given, bind-refused, either}
 use Rattle.exponents.proofs.Numbers.{Refuses}
 use Rattle.units.specs.declared.Factor.{Factor}
 use Rattle.tables.specs.Lists.{base}
-use Rattle.tables.specs.Rows.{pick, packExps}
+use Rattle.exponents.specs.Words.{pick}
+use Rattle.tables.specs.Held.{packExps}
 use Rattle.canonical.specs.Canonical.{sameAll, allNought}
 use Rattle.reduction.specs.Multiple.{Maybe, times, none, firstBase, fits, multipleOf, isMultiple, multipleIs}
 use Rattle.reduction.specs.declared.multiples.Multiple.the-variants.{Refused as NoMultiple}

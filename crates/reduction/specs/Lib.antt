@@ -1,3 +1,3 @@
-pub mod Partial
 pub mod Reduction
 pub mod Multiple
+pub mod Held

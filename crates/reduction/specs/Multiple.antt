@@ -3,12 +3,12 @@ use mathlib.Core.Bool.{_||_}
 use mathlib.Core.List.{List, [], _∷_}
 use Prim.Native.Nat.{ℕ, suc}
 use lib.ListN.{getD}
-use Rattle.exponents.specs.Outcome.{Outcome, given, refused, number, map, bind, each}
+use Rattle.exponents.specs.Words.{pick}
+use Rattle.exponents.specs.Outcome.{Outcome, given, refused, number, apply, bind, each}
 use Rattle.exponents.specs.Fractions.{nought, unit, same, div?, mul?}
 use Rattle.exponents.specs.declared.Exponent.{Exponent}
 use Rattle.units.specs.declared.Factor.{Factor}
 use Rattle.tables.specs.Lists.{base}
-use Rattle.tables.specs.Rows.{pick}
 use Rattle.canonical.specs.Canonical.{sameAll, allNought}
 use Rattle.reduction.specs.declared.multiples.Multiple.{Multiple}
 use Rattle.reduction.specs.declared.multiples.Multiple.the-variants.{Times, None, Refused}
@@ -25,7 +25,7 @@ firstBase (x ∷ xs) = pick (same x nought) (suc (firstBase xs)) 0
 
 -- q if b's times q are a's: all are worked out, and tested, before any is compared
 unfoldable pub fits : List Exponent → List Exponent → Exponent → Outcome Maybe
-fits xs ys q = map (λ zs. pick (sameAll zs xs) (times q) none) (each (λ y. mul? y q) ys)
+fits xs ys q = apply (λ zs. pick (sameAll zs xs) (times q) none) (each (λ y. mul? y q) ys)
 
 -- xs are a's base exponents, ys b's
 unfoldable pub multipleOf : List Exponent → List Exponent → Outcome Maybe
@@ -43,9 +43,3 @@ abbrev pub multipleIs : Outcome Maybe → Multiple
 multipleIs (given (times q)) = Times q
 multipleIs (given none) = None
 multipleIs (refused r) = Refused (number r)
-
--- 01's number and multiple in each case: none beside a refusal
-abbrev pub multipleTold : Multiple → ℕ × Maybe
-multipleTold (Times q) = (0, times q)
-multipleTold None = (0, none)
-multipleTold (Refused n) = (n, none)

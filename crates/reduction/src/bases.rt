@@ -3,16 +3,13 @@ ghost use mathlib.Core.Path.{_≡_};
 ghost use mathlib.Core.Bool.{false};
 ghost use mathlib.Core.List.{List, [], _∷_, _++_};
 ghost use Prim.Native.Nat.{ℕ, _≤_};
-ghost use lib.ListN.{length};
 ghost use Rattle.exponents.specs.Fractions.{faulty as isFaulty};
 ghost use Rattle.units.specs.declared.Factor.{Factor as Factorᵛ};
-ghost use Rattle.units.specs.Lists.{some, factorFault};
 ghost use Rattle.tables.specs.Lists.{base};
-ghost use Rattle.tables.specs.Scale.{binary64, scaleFrom, scale, sizeBy};
-ghost use Rattle.tables.specs.Rows.{expsOf, scaledOf};
-ghost use Rattle.tables.specs.Items.{View, Lent, viewBases, itemOf, packItems};
+ghost use Rattle.tables.specs.Scale.{doubles, scaleFrom, scale, sizeBy};
+ghost use Rattle.tables.specs.Held.{expsOf, scaledOf, View, viewBases, itemOf, Resolved, Lends};
 ghost use Rattle.canonical.specs.Canonical.{sameAll, allNought};
-ghost use Rattle.reduction.specs.Partial.{Summed};
+ghost use Rattle.reduction.specs.Held.{Summed};
 use exponents::Exponent;
 use exponents::Fraction;
 use tables::Item;
@@ -51,7 +48,7 @@ fn none_yet(n: usize) -> Partial
 
 // One factor more.
 fn with_factor(p: Partial, it: Item, nums: &[i32], dens: &[u32]) -> Partial
-    ensures { λ r. ⌜ ((v : View) → Lent v (now (nums .entry)) (now (dens .entry)) → (n : ℕ) (fs : List Factorᵛ) (f : Factorᵛ) → it ≡ itemOf v f → isFaulty (f .exponent) ≡ false → n ≤ 16 → Summed v n fs p → Summed v n (fs ++ (f ∷ [])) r) ⌝ }
+    ensures { λ r. ⌜ ((v : View) (n : ℕ) (fs : List Factorᵛ) (f : Factorᵛ) → Lends v n (now (nums .entry)) (now (dens .entry)) → it ≡ itemOf v f → isFaulty (f .exponent) ≡ false → Summed v n fs p → Summed v n (fs ++ (f ∷ [])) r) ⌝ }
 {
     let f = it.factor;
     let e = f.exponent;
@@ -85,7 +82,7 @@ fn with_factor(p: Partial, it: Item, nums: &[i32], dens: &[u32]) -> Partial
 
 // The factors of a list more.
 fn with_list(p: Partial, l: Items, nums: &[i32], dens: &[u32]) -> Partial
-    ensures { λ r. ⌜ ((v : View) → Lent v (now (nums .entry)) (now (dens .entry)) → (n : ℕ) (fs gs : List Factorᵛ) → l ≡ packItems v gs → length gs ≤ 16 → some factorFault gs ≡ false → n ≤ 16 → Summed v n fs p → Summed v n (fs ++ gs) r) ⌝ }
+    ensures { λ r. ⌜ ((v : View) (n : ℕ) (fs gs : List Factorᵛ) → Lends v n (now (nums .entry)) (now (dens .entry)) → Resolved v l gs → Summed v n fs p → Summed v n (fs ++ gs) r) ⌝ }
 {
     let m = capped(l.len);
     let mut o = p;
@@ -111,7 +108,7 @@ fn finished(p: Partial, n: usize) -> Exps
 
 // The base exponents of a list at the first n base rows.
 pub fn base_of(l: Items, n: usize, nums: &[i32], dens: &[u32]) -> Exps
-    ensures { λ r. ⌜ ((v : View) → Lent v (now (nums .entry)) (now (dens .entry)) → (fs : List Factorᵛ) → l ≡ packItems v fs → length fs ≤ 16 → n ≤ 16 → some factorFault fs ≡ false → r ≡ expsOf (base (viewBases v n) fs)) ⌝ }
+    ensures { λ r. ⌜ ((v : View) (fs : List Factorᵛ) → Lends v n (now (nums .entry)) (now (dens .entry)) → Resolved v l fs → r ≡ expsOf (base (viewBases v n) fs)) ⌝ }
 {
     let none = none_yet(n);
     let p = with_list(none, l, nums, dens);
@@ -120,7 +117,7 @@ pub fn base_of(l: Items, n: usize, nums: &[i32], dens: &[u32]) -> Exps
 
 // The base exponents of one factor.
 pub fn base_of_item(it: Item, n: usize, nums: &[i32], dens: &[u32]) -> Exps
-    ensures { λ r. ⌜ ((v : View) → Lent v (now (nums .entry)) (now (dens .entry)) → (f : Factorᵛ) → it ≡ itemOf v f → isFaulty (f .exponent) ≡ false → n ≤ 16 → r ≡ expsOf (base (viewBases v n) (f ∷ []))) ⌝ }
+    ensures { λ r. ⌜ ((v : View) (f : Factorᵛ) → Lends v n (now (nums .entry)) (now (dens .entry)) → it ≡ itemOf v f → isFaulty (f .exponent) ≡ false → r ≡ expsOf (base (viewBases v n) (f ∷ []))) ⌝ }
 {
     let none = none_yet(n);
     let p = with_factor(none, it, nums, dens);
@@ -129,7 +126,7 @@ pub fn base_of_item(it: Item, n: usize, nums: &[i32], dens: &[u32]) -> Exps
 
 // The base exponents of l and then m, joined: a conversion's own list over its common factors is such a pair.
 pub fn base_exponents(l: Items, m: Items, n: usize, nums: &[i32], dens: &[u32]) -> Exps
-    ensures { λ r. ⌜ ((v : View) → Lent v (now (nums .entry)) (now (dens .entry)) → (fs gs : List Factorᵛ) → l ≡ packItems v fs → m ≡ packItems v gs → length fs ≤ 16 → length gs ≤ 16 → n ≤ 16 → some factorFault (fs ++ gs) ≡ false → r ≡ expsOf (base (viewBases v n) (fs ++ gs))) ⌝ }
+    ensures { λ r. ⌜ ((v : View) (fs gs : List Factorᵛ) → Lends v n (now (nums .entry)) (now (dens .entry)) → Resolved v l fs → Resolved v m gs → r ≡ expsOf (base (viewBases v n) (fs ++ gs))) ⌝ }
 {
     let none = none_yet(n);
     let p = with_list(none, l, nums, dens);
@@ -141,7 +138,7 @@ pub fn base_exponents(l: Items, m: Items, n: usize, nums: &[i32], dens: &[u32]) 
 
 // start times the scale of a list.
 pub fn scale_from(start: f64, l: Items) -> Scaled
-    ensures { λ r. ⌜ ((v : View) (fs : List Factorᵛ) → l ≡ packItems v fs → length fs ≤ 16 → r ≡ scaledOf (scaleFrom binary64 (sizeBy (v .scale)) start fs)) ⌝ }
+    ensures { λ r. ⌜ ((v : View) (fs : List Factorᵛ) → Resolved v l fs → r ≡ scaledOf (scaleFrom doubles (sizeBy (v .scale)) start fs)) ⌝ }
 {
     let m = capped(l.len);
     let mut acc = start;
@@ -168,7 +165,7 @@ pub fn scale_from(start: f64, l: Items) -> Scaled
 
 // The scale of l and then m, joined.
 pub fn scale_of(l: Items, m: Items) -> Scaled
-    ensures { λ r. ⌜ ((v : View) (fs gs : List Factorᵛ) → l ≡ packItems v fs → m ≡ packItems v gs → length fs ≤ 16 → length gs ≤ 16 → r ≡ scaledOf (scale binary64 (sizeBy (v .scale)) (fs ++ gs))) ⌝ }
+    ensures { λ r. ⌜ ((v : View) (fs gs : List Factorᵛ) → Resolved v l fs → Resolved v m gs → r ≡ scaledOf (scale doubles (sizeBy (v .scale)) (fs ++ gs))) ⌝ }
 {
     let x = scale_from(1.0, l);
     match x {

@@ -2,12 +2,10 @@
 ghost use mathlib.Core.Path.{_≡_};
 ghost use mathlib.Core.Bool.{false};
 ghost use mathlib.Core.List.{List};
-ghost use Prim.Native.Nat.{_≤_};
-ghost use lib.ListN.{length};
-ghost use Rattle.exponents.specs.Fractions.{fractionOf, mul?, faulty as isFaulty};
+ghost use Rattle.exponents.specs.Held.{fractionOf};
+ghost use Rattle.exponents.specs.Fractions.{mul?, faulty as isFaulty};
 ghost use Rattle.units.specs.declared.Factor.{Factor as Factorᵛ};
-ghost use Rattle.units.specs.Lists.{some, factorFault};
-ghost use Rattle.tables.specs.Items.{View, Lent, viewBases, packItems};
+ghost use Rattle.tables.specs.Held.{View, viewBases, Resolved, Lends};
 ghost use Rattle.reduction.specs.Multiple.{firstBase, fits as fitsBy, multipleOf, isMultiple, multipleIs};
 use exponents::Exponent;
 use exponents::Fraction;
@@ -100,7 +98,7 @@ fn multiple_of(a: [Exponent; 16], b: [Exponent; 16]) -> Multiple
 
 // Where there are n base rows: RANGE of a's base exponents, of b's, then of the quotient and the products.
 pub fn is_multiple_of(a: Items, b: Items, n: usize, nums: &[i32], dens: &[u32]) -> Multiple
-    ensures { λ r. ⌜ ((v : View) → Lent v (now (nums .entry)) (now (dens .entry)) → (fs gs : List Factorᵛ) → a ≡ packItems v fs → b ≡ packItems v gs → length fs ≤ 16 → length gs ≤ 16 → n ≤ 16 → some factorFault fs ≡ false → some factorFault gs ≡ false → r ≡ multipleIs (isMultiple (viewBases v n) fs gs)) ⌝ }
+    ensures { λ r. ⌜ ((v : View) (fs gs : List Factorᵛ) → Lends v n (now (nums .entry)) (now (dens .entry)) → Resolved v a fs → Resolved v b gs → r ≡ multipleIs (isMultiple (viewBases v n) fs gs)) ⌝ }
 {
     let x = super::bases::base_of(a, n, nums, dens);
     if x.refusal != 0 {

@@ -1,16 +1,14 @@
 // Reduction, and the smaller of two units (01, "Powers and scales", "The refusals").
 ghost use mathlib.Core.Path.{_≡_};
-ghost use mathlib.Core.Bool.{false};
 ghost use mathlib.Core.List.{List};
 ghost use Prim.Native.Nat.{_≤_};
 ghost use lib.ListN.{length, take};
 ghost use Rattle.units.specs.declared.Factor.{Factor as Factorᵛ};
-ghost use Rattle.units.specs.Lists.{some, factorFault, pack};
+ghost use Rattle.units.specs.Lists.{pack};
 ghost use Rattle.tables.specs.declared.Slot.{Slot as Slotᵛ};
-ghost use Rattle.tables.specs.Scale.{sizeBy};
-ghost use Rattle.tables.specs.Rows.{scaledOf, packSlots};
-ghost use Rattle.tables.specs.Items.{View, Lent, viewBases, packItems};
-ghost use Rattle.reduction.specs.Reduction.{baseFactor, reduced, reduction as reductionOf, reducedScale, smallerUnit, notReduced, reducedOf, smallerOf};
+ghost use Rattle.tables.specs.Held.{scaledOf, packSlots, View, Resolved, Lends, rulesBy};
+ghost use Rattle.reduction.specs.Reduction.{baseFactor, reduced, reduction as reductionOf, reducedScale, smallerUnit, notReduced, reducedOf};
+ghost use Rattle.reduction.specs.Held.{smallerOf};
 use exponents::Exponent;
 use tables::Items;
 use tables::Slot;
@@ -77,7 +75,7 @@ pub fn not_reduced(refusal: u32) -> Reduced
 
 // A list reduced: RANGE of its base exponents, then FRACTION of its scale.
 pub fn reduce_list(l: Items, slots: Slots, nums: &[i32], dens: &[u32]) -> Reduced
-    ensures { λ r. ⌜ ((v : View) → Lent v (now (nums .entry)) (now (dens .entry)) → (fs : List Factorᵛ) (ss : List Slotᵛ) → l ≡ packItems v fs → slots ≡ packSlots ss → length fs ≤ 16 → length ss ≤ 16 → some factorFault fs ≡ false → r ≡ reducedOf (reductionOf (viewBases v (length ss)) (sizeBy (v .scale)) ss fs)) ⌝ }
+    ensures { λ r. ⌜ ((v : View) (fs : List Factorᵛ) (ss : List Slotᵛ) → Lends v (length ss) (now (nums .entry)) (now (dens .entry)) → Resolved v l fs → slots ≡ packSlots ss → r ≡ reducedOf (reductionOf (rulesBy v (length ss)) ss fs)) ⌝ }
 {
     let x = super::bases::base_of(l, slots.len, nums, dens);
     if x.refusal != 0 {
@@ -100,7 +98,7 @@ pub fn reduce_list(l: Items, slots: Slots, nums: &[i32], dens: &[u32]) -> Reduce
 
 // The scale of a list, after RANGE of its base exponents.
 fn reduced_scale(l: Items, n: usize, nums: &[i32], dens: &[u32]) -> Scaled
-    ensures { λ r. ⌜ ((v : View) → Lent v (now (nums .entry)) (now (dens .entry)) → (fs : List Factorᵛ) → l ≡ packItems v fs → length fs ≤ 16 → n ≤ 16 → some factorFault fs ≡ false → r ≡ scaledOf (reducedScale (viewBases v n) (sizeBy (v .scale)) fs)) ⌝ }
+    ensures { λ r. ⌜ ((v : View) (fs : List Factorᵛ) → Lends v n (now (nums .entry)) (now (dens .entry)) → Resolved v l fs → r ≡ scaledOf (reducedScale (rulesBy v n) fs)) ⌝ }
 {
     let x = super::bases::base_of(l, n, nums, dens);
     if x.refusal != 0 {
@@ -111,7 +109,7 @@ fn reduced_scale(l: Items, n: usize, nums: &[i32], dens: &[u32]) -> Scaled
 
 // The first if its scale is at most the second's, where there are n base rows.
 pub fn smaller_unit(a: Items, b: Items, n: usize, nums: &[i32], dens: &[u32]) -> Smaller
-    ensures { λ r. ⌜ ((v : View) → Lent v (now (nums .entry)) (now (dens .entry)) → (fs gs : List Factorᵛ) → a ≡ packItems v fs → b ≡ packItems v gs → length fs ≤ 16 → length gs ≤ 16 → n ≤ 16 → some factorFault fs ≡ false → some factorFault gs ≡ false → r ≡ smallerOf (smallerUnit (viewBases v n) (sizeBy (v .scale)) fs gs)) ⌝ }
+    ensures { λ r. ⌜ ((v : View) (fs gs : List Factorᵛ) → Lends v n (now (nums .entry)) (now (dens .entry)) → Resolved v a fs → Resolved v b gs → r ≡ smallerOf (smallerUnit (rulesBy v n) fs gs)) ⌝ }
 {
     let x = reduced_scale(a, n, nums, dens);
     match x {

@@ -15,10 +15,10 @@ use Rattle.units.specs.declared.Rows.{Rows}
 use Rattle.units.specs.Lists.{pack, factorFault, checked}
 use Rattle.tables.specs.declared.Slot.{Slot}
 use Rattle.tables.specs.Lists.{baseAt, base}
-use Rattle.tables.specs.Rows.{Facts, slots, rowsOf, admitted, admit}
-use Rattle.tables.proofs.Each.{all-imp, each-holds, along-all}
+use Rattle.tables.specs.Rows.{Facts, slots, rowsOf, admitted, admit, baseRows}
+use Rattle.exponents.proofs.Each.{all-imp, each-holds, along-all}
 use Rattle.tables.proofs.Filled.{admit-rows, table-length}
-use Rattle.tables.proofs.Places.{All}
+use Rattle.exponents.specs.Words.{All}
 use Rattle.tables.proofs.Slotting.{slots-few}
 use Rattle.tables.proofs.Sound.{Sound, baseAt-sound}
 use Rattle.tables.proofs.Terms.{nilRow}
@@ -26,7 +26,6 @@ use Rattle.canonical.specs.Canonical.{nonzero}
 use Rattle.canonical.proofs.Keeping.{unless-keeps}
 use Rattle.reduction.specs.Reduction.{baseFactor, baseFactors, reduced}
 use Rattle.reduction.proofs.Reducing.{reduced-short}
-use Rattle.lists.specs.Opening.{baseRows}
 use Rattle.simplification.proofs.Sounding.{Passes, passed-checked}
 use Rattle.registry.proofs.BaseSlots.{slots-base}
 

@@ -11,9 +11,9 @@ use Rattle.units.specs.declared.Kind.the-variants.{Base, Derived}
 use Rattle.units.specs.declared.Row.{Row}
 use Rattle.tables.specs.declared.Slot.{Slot}
 use Rattle.tables.specs.Rows.{placed, slotted, slotsFrom, slots}
-use Rattle.tables.proofs.Each.{all-imp}
-use Rattle.tables.proofs.Places.{All}
-use Rattle.canonical.proofs.Keeping.{pick-is}
+use Rattle.exponents.proofs.Each.{all-imp}
+use Rattle.exponents.specs.Words.{All}
+use Rattle.exponents.proofs.Words.{pick-is}
 
 -- ---- what holds of each that is put in
 module _ (P : Slot → Type 0) where

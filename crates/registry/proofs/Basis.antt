@@ -18,16 +18,16 @@ use Rattle.units.specs.declared.Factor.{Factor}
 use Rattle.units.specs.declared.Rows.{Rows}
 use Rattle.tables.specs.declared.Slot.{Slot}
 use Rattle.tables.specs.Lists.{base}
-use Rattle.tables.specs.Rows.{pick, Facts, nobody, expAt, places, selfExp, noSlot, rowsOf, admitted, admit}
-use Rattle.tables.proofs.Each.{Along, next, all-imp, along-length}
+use Rattle.exponents.specs.Words.{pick, All}
+use Rattle.tables.specs.Rows.{Facts, nobody, expAt, places, selfExp, rowsOf, admitted, admit, baseRows}
+use Rattle.tables.specs.Rules.{rulesIn}
+use Rattle.tables.specs.Held.{noSlot}
+use Rattle.exponents.proofs.Each.{Along, next, all-imp, along-length}
 use Rattle.tables.proofs.Filled.{admit-rows, base-exps}
-use Rattle.tables.proofs.Places.{All}
 use Rattle.tables.proofs.Terms.{get-map, long-bases, nilRow}
 use Rattle.canonical.proofs.Algebra.{exact, nonzero-exact}
 use Rattle.canonical.proofs.Bases.{Agree, Exactly, base-exact}
 use Rattle.reduction.specs.Reduction.{baseFactors, reduced}
-use Rattle.lists.specs.Opening.{baseRows}
-use Rattle.lists.specs.Calls.{basesIn}
 use Rattle.registry.proofs.GivenLists.{all-at}
 use Rattle.registry.proofs.BaseSlots.{Other, Apart, slots-apart, slots-base}
 
@@ -84,10 +84,10 @@ module _ (t : Rows) (ks : List Facts) (e : admit t ≡ admitted ks) where
   counts j h = all-imp (baseRows t) (λ s p. ap (λ l. getD l j nought) p ∙ get-map (selfExp (s .row)) (baseRows t) j noSlot nought h) self-exps
 
   -- THEOREM: the list reduced agrees with the list
-  pub reduced-agrees : (l : List Factor) (xs : List Exponent) → base (basesIn t ks) l ≡ given xs → Agree value (basesIn t ks) l (reduced (baseRows t) xs)
+  pub reduced-agrees : (l : List Factor) (xs : List Exponent) → base (rulesIn t ks .bases) l ≡ given xs → Agree value (rulesIn t ks .bases) l (reduced (baseRows t) xs)
   unfolding reduced
   reduced-agrees l xs p =
-      let a = take-out (base-exact value (basesIn t ks) l) p in
+      let a = take-out (base-exact value (rulesIn t ks .bases) l) p in
       agrees-from value ks l (reduced (baseRows t) xs) 0 (length (baseRows t)) xs a λ j h.
       rw (nat.zero-add j)
       (nonzero-exact value (baseFactors (baseRows t) xs) (expAt ks j)

@@ -1,5 +1,5 @@
 -- Each turn of the code makes of a candidate what the rule makes of it, and the turns together choose what the rule chooses.
-use mathlib.Core.Path.{_≡_, refl, sym, ap, _∙_, subst}
+use mathlib.Core.Path.{_≡_, refl, sym, ap, _∙_}
 use mathlib.Core.Bool.{Bool, true, false, true≢false}
 use mathlib.Core.List.{List}
 use Prim.Native.Nat.{ℕ, _+_, _≤_, _<_}
@@ -8,51 +8,36 @@ use borrow.Author.Tests.{eq-eqb, ne-eqb, lt-ltb, le-ltb}
 use lib.Dec.{eqb, ltb}
 use lib.Ieee.{Float}
 use lib.ListN.{length, drop, getD, drop-of-length-le}
-use Rattle.exponents.specs.Outcome.{Outcome, given, refused, map, bind}
+use Rattle.exponents.specs.Outcome.{Outcome, given, refused, apply, bind}
 use Rattle.exponents.specs.declared.Exponent.{Exponent}
 use Rattle.exponents.proofs.Holds.{bind-given}
 use Rattle.exponents.proofs.Numbers.{number-pos, Refuses, struct-refuses}
 use Rattle.units.specs.declared.Factor.{Factor}
 use Rattle.units.specs.declared.Quantity.{Quantity}
 use Rattle.units.proofs.Laws.{len-pack}
-use Rattle.tables.specs.Rows.{pick}
-use Rattle.tables.proofs.Places.{rest}
-use Rattle.canonical.specs.Equality.{verdictOf}
-use Rattle.canonical.specs.declared.equality.Verdict.{Verdict}
-use Rattle.canonical.specs.declared.equality.Verdict.the-variants as verdict
+use Rattle.exponents.specs.Words.{pick}
+use Rattle.exponents.proofs.Places.{rest}
 use Rattle.lists.proofs.Ends.{handed, bind-refuses}
 use Rattle.quantities.proofs.Converting.{map-refuses, refuses-as}
-use Rattle.values.specs.Quantities.{fresh, noQuantity, answeredOf}
-use Rattle.simplification.specs.Rules.{Rules, convertBy}
+use Rattle.values.specs.Quantities.{noQuantity, answeredOf}
+use Rattle.tables.specs.Rules.{Rules}
+use Rattle.conversion.specs.Conversion.{convert}
 use Rattle.simplification.specs.Steps.{Amount, quantityOf}
-use Rattle.registry.specs.Registry.{Turn, wins, stays, after, fitting, turn, chosen, turnOf, choiceOf}
+use Rattle.registry.specs.Registry.{Turn, wins, stays, after, fitting, turn, chosen}
+use Rattle.registry.specs.Held.{turnOf, choiceOf}
 use Rattle.registry.specs.declared.Choice.{Choice}
-
--- ---- what a test, as code has it, tells of its outcome
-abbrev pub Judges : Outcome Bool → Verdict → Type 0
-Judges o verdict.Yes = o ≡ given true
-Judges o verdict.No = o ≡ given false
-Judges o (verdict.Refused n) = Refuses o n
-
-judges : (o : Outcome Bool) → Judges o (verdictOf o)
-judges (given true) = refl
-judges (given false) = refl
-judges (refused r) = record { why = r; is = refl; numbered = refl }
-
-pub judged-so : (o : Outcome Bool) (e w : Verdict) → e ≡ verdictOf o → e ≡ w → Judges o w
-judged-so o e w p h = subst (Judges o) (sym p ∙ h) (judges o)
 
 -- ---- one turn: the candidate m after the best so far
 
 -- whether m fits what is left
-abbrev pub tested : Rules → List Exponent → Float → Amount → List Factor → Outcome Bool
+abbrev pub tested : Rules Float → List Exponent → Float → Amount → List Factor → Outcome Bool
 tested R xs s now m = fitting R (length (now .1)) xs s m
 
 -- what is left, in m
-abbrev pub reached : Rules → Amount → List Factor → Outcome Float
-reached R now m = convertBy R (now .1) m (now .0)
+abbrev pub reached : Rules Float → Amount → List Factor → Outcome Float
+reached R now m = convert R (now .1) m (now .0)
 
-module _ (R : Rules) (xs : List Exponent) (s : Float) (now best : Amount) (m : List Factor) where
+module _ (R : Rules Float) (xs : List Exponent) (s : Float) (now best : Amount) (m : List Factor) where
   -- what becomes of a value converted
   abbrev taken : Float → Turn
   taken x = pick (eqb (length m) 1) (wins (x, m)) (stays (pick (ltb (length m) (length (best .1))) (x, m) best))
@@ -66,7 +51,7 @@ module _ (R : Rules) (xs : List Exponent) (s : Float) (now best : Amount) (m : L
   no-fit e = bind-given _ e
 
   module _ (e : tested R xs s now m ≡ given true) where
-    fit : turn R xs s now best m ≡ map taken (reached R now m)
+    fit : turn R xs s now best m ≡ apply taken (reached R now m)
     unfolding turn
     fit = bind-given _ e
 
@@ -75,7 +60,7 @@ module _ (R : Rules) (xs : List Exponent) (s : Float) (now best : Amount) (m : L
 
     module _ (x : Float) (g : reached R now m ≡ given x) where
       took : turn R xs s now best m ≡ given (taken x)
-      took = fit ∙ ap (map taken) g
+      took = fit ∙ ap (apply taken) g
 
       pub one-wins : length m ≡ 1 → turn R xs s now best m ≡ given (wins (x, m))
       one-wins h = took ∙ rw (eq-eqb (length m) 1 h)
@@ -113,59 +98,52 @@ has-stayed (given (wins a)) x e h w = absurd (true≢false (sym (ap (λ (y : Cho
 has-stayed (given (stays b)) x e h w = record { with-it = b; is = refl; has = ap (λ (y : Choice). y .best) e }
 has-stayed (refused r) x e h w = absurd (omega (arith, number-pos r, ap (λ (y : Choice). y .refusal) e))
 
--- ---- a quantity by its own value
-pub own-value : (q : Quantity) (a : Amount) → q ≡ quantityOf a → q ≡ fresh (q .value) (a .1)
-own-value q a e = e ∙ ap (λ v. fresh v (a .1)) (sym (ap (λ (q : Quantity). q .value) e))
-
--- its unit has the list's length
-pub fresh-long : (fs : List Factor) (q : Quantity) → q ≡ fresh (q .value) fs → q .unit .len ≡ length fs
-fresh-long fs q e = ap (λ (q : Quantity). q .unit .len) e ∙ len-pack fs
+-- an amount's list, as code holds it, has its length
+pub amount-long : (a : Amount) (q : Quantity) → q ≡ quantityOf a → q .unit .len ≡ length (a .1)
+amount-long a q e = ap (λ (q : Quantity). q .unit .len) e ∙ len-pack (a .1)
 
 -- ---- the turns
-module _ (R : Rules) (xs : List Exponent) (s : Float) (now : Amount) (ms : List (List Factor)) where
+module _ (R : Rules Float) (xs : List Exponent) (s : Float) (now : Amount) (ms : List (List Factor)) where
   abbrev all : Outcome Amount
   all = chosen R xs s now now ms
 
   -- the candidates before i are looked at: o has the best of them
   pub record Underway (o : Choice) (i : ℕ) : Type 0 where
-    pub of : List Factor
-    pub best : o .best ≡ fresh (o .best .value) of
-    pub left : chosen R xs s now (o .best .value, of) (drop i ms) ≡ all
-
-  holding : (o : Choice) (i : ℕ) (a : Amount) → o .best ≡ quantityOf a → chosen R xs s now a (drop i ms) ≡ all → Underway o i
-  holding o i a e h = record { of = a .1; best = own-value (o .best) a e; left = ap (λ (q : Quantity). chosen R xs s now (q .value, a .1) (drop i ms)) e ∙ h }
+    pub best : Amount
+    pub is : o .best ≡ quantityOf best
+    pub left : chosen R xs s now best (drop i ms) ≡ all
 
   pub underway : (q : Quantity) (o : Choice) → q ≡ quantityOf now → o ≡ record { best = q; won = false; refusal = 0 } → Underway o 0
-  underway q o e h = holding o 0 now (ap (λ (y : Choice). y .best) h ∙ e) refl
+  underway q o e h = record { best = now; is = ap (λ (y : Choice). y .best) h ∙ e; left = refl }
 
   module _ (o : Choice) (i : ℕ) (u : Underway o i) where
     -- no candidate is left
-    pub turns-end : length ms ≤ i → record { quantity = o .best; refusal = 0 } ≡ answeredOf (map quantityOf all)
+    pub turns-end : length ms ≤ i → record { quantity = o .best; refusal = 0 } ≡ answeredOf (apply quantityOf all)
     unfolding chosen
     turns-end h =
-        ap (λ (q : Quantity). record { quantity = q; refusal = 0 }) (u .best)
-        ∙ sym (ap (λ o. answeredOf (map quantityOf o)) (sym (u .left) ∙ ap (chosen R xs s now (o .best .value, u .of)) (drop-of-length-le ms {i = i} h)))
+        ap (λ (q : Quantity). record { quantity = q; refusal = 0 }) (u .is)
+        ∙ sym (ap (λ o. answeredOf (apply quantityOf o)) (sym (u .left) ∙ ap (chosen R xs s now (u .best)) (drop-of-length-le ms {i = i} h)))
 
-    module _ (d : List Factor) (h : i < length ms) (x : Choice) (e : x ≡ choiceOf (turn R xs s now (o .best .value, u .of) (getD ms i d))) where
+    module _ (d : List Factor) (h : i < length ms) (x : Choice) (e : x ≡ choiceOf (turn R xs s now (u .best) (getD ms i d))) where
       abbrev this : Outcome Turn
-      this = turn R xs s now (o .best .value, u .of) (getD ms i d)
+      this = turn R xs s now (u .best) (getD ms i d)
 
       opened : all ≡ bind this (λ w. after w (λ b. chosen R xs s now b (drop (i + 1) ms)))
       unfolding chosen
-      opened = sym (u .left) ∙ ap (chosen R xs s now (o .best .value, u .of)) (rest ms d i h)
+      opened = sym (u .left) ∙ ap (chosen R xs s now (u .best)) (rest ms d i h)
 
-      pub turns-stop : (x .refusal ≡ 0 → ⊥) → Refuses (map quantityOf all) (x .refusal)
+      pub turns-stop : (x .refusal ≡ 0 → ⊥) → Refuses (apply quantityOf all) (x .refusal)
       turns-stop k = map-refuses quantityOf all _ (refuses-as _ _ _ opened (bind-refuses this _ _ (turn-refuses this x e k)))
 
-      pub turns-won : x .refusal ≡ 0 → x .won ≡ true → record { quantity = x .best; refusal = 0 } ≡ answeredOf (map quantityOf all)
+      pub turns-won : x .refusal ≡ 0 → x .won ≡ true → record { quantity = x .best; refusal = 0 } ≡ answeredOf (apply quantityOf all)
       unfolding after
       turns-won k w =
           let a = has-won this x e k w in
           ap (λ (q : Quantity). record { quantity = q; refusal = 0 }) (a .has)
-          ∙ sym (ap (λ o. answeredOf (map quantityOf o)) (opened ∙ bind-given _ (a .is)))
+          ∙ sym (ap (λ o. answeredOf (apply quantityOf o)) (opened ∙ bind-given _ (a .is)))
 
       pub turns-on : x .refusal ≡ 0 → x .won ≡ false → Underway x (i + 1)
       unfolding after
       turns-on k w =
           let a = has-stayed this x e k w in
-          holding x (i + 1) (a .with-it) (a .has) (sym (opened ∙ bind-given _ (a .is)))
+          record { best = a .with-it; is = a .has; left = sym (opened ∙ bind-given _ (a .is)) }

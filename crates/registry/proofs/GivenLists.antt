@@ -9,7 +9,7 @@ use borrow.Author.Tests.{ltb-false, lt-ltb, le-ltb}
 use lib.Dec.{ltb}
 use lib.ListN.{length, take, drop, getD, length-take, drop-of-length-le}
 use lib.Seq.{getD-take, length-take-le}
-use Rattle.exponents.specs.Outcome.{Outcome, given, SHAPE, unless, map, bind, refusalOf}
+use Rattle.exponents.specs.Outcome.{Outcome, given, SHAPE, unless, apply, bind, refusalOf}
 use Rattle.exponents.proofs.Holds.{Holds, held, take-out, holds-eq, holds-imp, holds-unless, holds-map, holds-bind, bind-given, bind-refused}
 use Rattle.exponents.proofs.Numbers.{refuses, answers, refusal-map}
 use Rattle.units.specs.declared.Factor.{Factor}
@@ -19,8 +19,9 @@ use Rattle.units.specs.declared.Candidates.{Candidates}
 use Rattle.units.specs.Lists.{listOf, some, factorFault, checked}
 use Rattle.units.proofs.Laws.{listed as long-list}
 use Rattle.units.proofs.Checked.{short as list-short, no-fault, passes}
-use Rattle.tables.proofs.Each.{Along, done, next, along-length}
-use Rattle.tables.proofs.Places.{All, rest}
+use Rattle.exponents.proofs.Each.{Along, done, next, along-length}
+use Rattle.exponents.specs.Words.{All}
+use Rattle.exponents.proofs.Places.{rest}
 use Rattle.targets.proofs.Grouping.{all-drop}
 use Rattle.simplification.proofs.Sounding.{Passes, row-known, checked-passed}
 use Rattle.registry.specs.Registry.{listsFrom, candidateLists}
@@ -95,7 +96,7 @@ module _ (rows : ℕ) (c : Candidates) where
       x = getD (c .at) i d
 
       abbrev others : List Factor → Outcome (List (List Factor))
-      others fs = map (λ ms. fs ∷ ms) (listsFrom rows (suc (x .rank)) (drop (i + 1) (those c)))
+      others fs = apply (λ ms. fs ∷ ms) (listsFrom rows (suc (x .rank)) (drop (i + 1) (those c)))
 
       step : refusalOf (unless (ltb (x .rank) least) SHAPE (bind (checked rows (x .unit)) others)) ≡ fault
       unfolding listsFrom

@@ -1,105 +1,115 @@
--- What code reads from an admitted table is so: its base rows and base exponents, a factor with what is known of its row, and a conversion between two lists that passed.
-use mathlib.Core.Path.{_≡_, sym, ap, ap₂, _∙_, subst}
+-- What code reads from an admitted table is so: its rows and base rows, a list with what is known of its rows, and a conversion between two lists that passed.
+use mathlib.Core.Path.{_≡_, refl, sym, ap, ap₂, _∙_, subst}
 use mathlib.Core.Bool.{Bool}
 use mathlib.Core.List.{List, [], _++_}
-use Prim.Native.Nat.{ℕ, _≤_}
-use native.Mathlib.Omega.{arith}
+use Prim.Native.Nat.{ℕ}
 use lib.Ieee.{Float}
 use lib.IntN.{ℤ}
 use lib.ListN.{length, getD}
-use Rattle.exponents.specs.Outcome.{given, map}
+use Rattle.exponents.specs.Words.{All}
+use Rattle.exponents.specs.Outcome.{given, apply}
 use Rattle.exponents.specs.declared.Exponent.{Exponent}
 use Rattle.exponents.proofs.Holds.{bind-given}
 use Rattle.units.specs.declared.Factor.{Factor}
 use Rattle.units.specs.declared.Factors.{Factors}
-use Rattle.units.specs.declared.Rows.{Rows}
-use Rattle.units.specs.Lists.{checked, both}
+use Rattle.units.specs.Lists.{both}
+use Rattle.tables.specs.declared.Admitted.{Admitted}
 use Rattle.tables.specs.declared.Item.{Item}
+use Rattle.tables.specs.declared.Items.{Items}
 use Rattle.tables.specs.Lists.{base}
-use Rattle.tables.specs.Rows.{Facts, nobody, scaleAt, packExps, rowsOf, Admission}
-use Rattle.tables.specs.Pages.{Pages}
-use Rattle.tables.specs.Items.{itemOf, viewOf, viewBases, Lent}
-use Rattle.tables.proofs.Slotting.{slots-few}
-use Rattle.tables.proofs.Telling.{lent-view}
-use Rattle.resolution.specs.Resolve.{Keyed, resolvedOf}
-use Rattle.resolution.specs.declared.Resolved.{Resolved}
+use Rattle.tables.specs.Rows.{Facts, nobody, scaleAt, Admission, admitted, baseRows, known, table}
+use Rattle.tables.specs.Rules.{Rules}
+use Rattle.tables.specs.Held.{View, Stands, Placed, packExps, packSlots, admittedOf, Admits, Pages, itemOf, packItems, noItems, viewOf, viewBases, rulesBy, Lends, Resolved}
+use Rattle.resolution.specs.Held.{Keyed, Reads, resolvedOf}
+use Rattle.resolution.specs.declared.Resolved.{Resolved as Both}
 use Rattle.resolution.proofs.Keyed.{admit-keyed}
+use Rattle.resolution.proofs.Viewed.{first-named, second-named, view-placed, rules-told}
 use Rattle.canonical.specs.Canonical.{sameAll}
 use Rattle.reduction.proofs.Compared.{packed-same}
 use Rattle.reduction.proofs.Handed.{base-long}
-use Rattle.lists.specs.Opening.{baseRows, known, opening, Tells}
-use Rattle.lists.specs.Calls.{basesIn}
-use Rattle.lists.proofs.Ends.{bases-agree, tells-of}
-use Rattle.conversion.specs.Conversion.{convertedOf}
+use Rattle.lists.proofs.Ends.{slots-len, tells-of}
+use Rattle.conversion.specs.Conversion.{convert}
+use Rattle.conversion.specs.Held.{convertedOf}
 use Rattle.conversion.specs.declared.convert.Converted.{Converted}
-use Rattle.quantities.specs.Calls.{convertIn}
-use Rattle.quantities.proofs.Ready.{Ready, Converts, forth}
-use Rattle.simplification.specs.Rules.{Lends}
-use Rattle.simplification.proofs.Lending.{lends-view}
-use Rattle.registry.specs.Registry.{plainView, Held}
-use Rattle.registry.proofs.GivenLists.{listed}
+use Rattle.quantities.proofs.Ready.{Converts}
+use Rattle.registry.specs.Held.{plainView, Table, rulesOf, Stored, Checks, BaseExps}
+use Rattle.registry.proofs.GivenLists.{Listed, listed}
 
--- a factor with what is known of its row
-pub plain-item : (ks : List Facts) (f : Factor) (x : Float) (y : Bool) → x ≡ scaleAt ks (f .row) → y ≡ getD ks (f .row) nobody .base → _≡_ {A = Item} (record { factor = f; scale = x; place = 0; class = 0; base = y }) (itemOf (plainView ks) f)
-plain-item ks f x y = ap₂ (λ (x : Float) (y : Bool). record { factor = f; scale = x; place = 0; class = 0; base = y })
+-- a list that passed is resolved, by any view that places its rows
+module _ {rows : ℕ} {a : Factors} {fs : List Factor} (g : Listed rows a fs) where
+  pub passed-resolved : {v : View} {l : Items} → Placed v → All (λ f. Stands (f .row) (v .among)) fs → l ≡ packItems v fs → Resolved v l fs
+  passed-resolved h n e = record { is = e; short = g .few; shaped = g .shaped; named = n; placed = h }
+
+  -- with what is known of its rows
+  pub plain-resolved : (ks : List Facts) {l : Items} → l ≡ packItems (plainView ks fs) fs → Resolved (plainView ks fs) l fs
+  plain-resolved ks = passed-resolved (record { order = λ u w h k. refl; class = λ r s h k. refl }) (second-named [] fs)
+
+pub plain-item : (ks : List Facts) (l : List Factor) (f : Factor) (x : Float) (y : Bool) → x ≡ scaleAt ks (f .row) → y ≡ getD ks (f .row) nobody .base → _≡_ {A = Item} (record { factor = f; scale = x; place = 0; class = 0; base = y }) (itemOf (plainView ks l) f)
+plain-item ks l f x y = ap₂ (λ (x : Float) (y : Bool). record { factor = f; scale = x; place = 0; class = 0; base = y })
 
 -- ---- an admitted table
-module _ {tb : Rows} {ks : List Facts} {n : ℕ} {nums : List ℤ} {dens : List ℕ} {scales : List Float} {ranks : List ℕ} {based : List Bool} (g : Held tb ks n nums dens scales ranks based) where
-  pub keyed : Keyed ks
-  keyed = admit-keyed tb ks (g .admits)
+module _ (tb : Table) where
+  pub rows-known : table (tb .rows) ≡ given (tb .known)
+  rows-known = ap known (tb .admits)
+
+  pub keyed : Keyed (tb .known)
+  keyed = admit-keyed (tb .rows) (tb .known) (tb .admits)
+
+  -- as code hands it over
+  module _ {t : Admitted} {nums : List ℤ} {dens : List ℕ} {scales : List Float} {ranks : List ℕ} {based : List Bool} (a : Admits (tb .rows) t nums dens scales ranks based) where
+    is : t ≡ admittedOf (baseRows (tb .rows)) (admitted (tb .known))
+    is = a .is ∙ ap (admittedOf (baseRows (tb .rows))) (tb .admits)
+
+    pub slots-are : t .slots ≡ packSlots (baseRows (tb .rows))
+    slots-are = ap (λ (t : Admitted). t .slots) is
+
+    pub stored : Stored tb (t .len) (t .slots .len) nums dens scales ranks based
+    stored = record {
+      long = ap (λ (t : Admitted). t .len) is;
+      bases = slots-len (t .slots) (baseRows (tb .rows)) slots-are;
+      paged = subst (λ (a : Admission). Pages a nums dens scales ranks based) (tb .admits) (a .pages);
+    }
+
+module _ {tb : Table} {len n : ℕ} {nums : List ℤ} {dens : List ℕ} {scales : List Float} {ranks : List ℕ} {based : List Bool} (g : Stored tb len n nums dens scales ranks based) where
+  -- what resolving goes by
+  pub reads : {none : Items} → none ≡ noItems → Reads (tb .known) len none nums dens scales ranks based
+  reads e = record { all = g .long; empty = e; paged = g .paged; keyed = keyed tb }
 
   -- what the arrays tell of the rows
-  pub lent-plain : Lent (plainView ks) nums dens
-  lent-plain = lent-view ks [] nums dens scales ranks based (g .paged)
+  pub lends-rows : (l : List Factor) → Lends (viewOf (tb .known) l) n nums dens
+  lends-rows l =
+      subst (λ n. Lends (viewOf (tb .known) l) n nums dens) (sym (g .bases))
+      (tells-of (tb .rows) nums dens scales ranks based (subst (λ (a : Admission). Pages a nums dens scales ranks based) (sym (tb .admits)) (g .paged)) (tb .known) (rows-known tb) l)
 
-  tells-held : Tells tb nums dens
-  tells-held = tells-of tb nums dens scales ranks based (subst (λ (a : Admission). Pages a nums dens scales ranks based) (sym (g .admits)) (g .paged))
+  pub lends-plain : (l : List Factor) → Lends (plainView (tb .known) l) n nums dens
+  lends-plain l = let h = lends-rows l in record { lent = h .lent; short = h .short; few = h .few }
 
-  pub lends-held : (l : List Factor) → Lends (viewOf ks l) nums dens
-  lends-held l = lends-view tb ks (ap known (g .admits)) l nums dens tells-held
+  -- by way of any list, the rules are the table's
+  pub rules-are : (l : List Factor) → rulesBy (viewOf (tb .known) l) n ≡ rulesOf tb
+  rules-are l = rules-told (tb .rows) (tb .known) l n (g .bases)
 
-  pub slots-short : n ≤ 16
-  slots-short = omega (arith, g .bases, slots-few (rowsOf tb))
-
-  pub plain-bases : viewBases (plainView ks) n ≡ basesIn tb ks
-  plain-bases = bases-agree tb ks [] n (g .bases)
+  pub plain-bases : (l : List Factor) → viewBases (plainView (tb .known) l) n ≡ rulesOf tb .bases
+  plain-bases l = ap (λ (R : Rules Float). R .bases) (rules-are l)
 
   -- there is one base exponent for each base row
-  pub base-sized : (ms : List Factor) (ys : List Exponent) → base (basesIn tb ks) ms ≡ given ys → length ys ≡ length (baseRows tb)
-  base-sized ms ys e = base-long (plainView ks) n ms ys (ap (λ bs. base bs ms) plain-bases ∙ e) ∙ g .bases
+  pub base-sized : (ms : List Factor) (ys : List Exponent) → base (rulesOf tb .bases) ms ≡ given ys → length ys ≡ length (baseRows (tb .rows))
+  base-sized ms ys e = base-long (plainView (tb .known) []) n ms ys (ap (λ bs. base bs ms) (plain-bases []) ∙ e) ∙ g .bases
 
   -- base exponents as code compares them
-  pub bases-same : (ms : List Factor) (ys es x y : List Exponent) → base (basesIn tb ks) ms ≡ given ys → x ≡ packExps ys → y ≡ packExps es → length es ≡ length (baseRows tb) → sameAll x y ≡ sameAll ys es
-  bases-same ms ys es x y e p q l = ap₂ sameAll p q ∙ packed-same ys es (base-sized ms ys e ∙ sym l)
+  pub bases-same : (ms : List Factor) (ys x y : List Exponent) (b : BaseExps tb y) → base (rulesOf tb .bases) ms ≡ given ys → x ≡ packExps ys → sameAll x y ≡ sameAll ys (b .exps)
+  bases-same ms ys x y b e p = ap₂ sameAll p (b .are) ∙ packed-same ys (b .exps) (base-sized ms ys e ∙ sym (b .sized))
 
-  -- two checked lists resolved
-  module _ (l m : Factors) (ls ms : List Factor) (p : checked (length ks) l ≡ given ls) (q : checked (length ks) m ≡ given ms) where
-    both-are : both (length ks) l m ≡ given (ls, ms)
+  -- two lists that passed, resolved
+  module _ {l m : Factors} (p : Checks tb l) (q : Checks tb m) (o : Both) (e : o ≡ resolvedOf (tb .known) (both (length (tb .known)) l m)) where
+    pub resolves : o ≡ resolvedOf (tb .known) (given (p .factors, q .factors))
     unfolding both
-    both-are = bind-given _ p ∙ ap (map (λ gs. (ls, gs))) q
+    resolves = e ∙ ap (resolvedOf (tb .known)) (bind-given _ (p .is) ∙ ap (apply (λ gs. (p .factors, gs))) (q .is))
 
-    pub resolves : (o : Resolved) → o ≡ resolvedOf ks (both (length ks) l m) → o ≡ resolvedOf ks (given (ls, ms))
-    resolves o e = e ∙ ap (resolvedOf ks) both-are
-
-    ready-held : (o : Resolved) → o ≡ resolvedOf ks (both (length ks) l m) → Ready tb l m (record { a = o .a; b = o .b; slots = record { at = []; len = n }; refusal = 0 })
-    unfolding opening
-    ready-held o e =
-        let r = resolves o e in
-        record {
-          ks = ks;
-          fs = ls;
-          gs = ms;
-          opened = bind-given _ (ap known (g .admits)) ∙ ap (map _) both-are;
-          first = ap (λ (o : Resolved). o .a) r;
-          second = ap (λ (o : Resolved). o .b) r;
-          first-short = listed p .few;
-          second-short = listed q .few;
-          first-shaped = listed p .shaped;
-          second-shaped = listed q .shaped;
-          few = slots-short;
-          bases = bases-agree tb ks (ls ++ ms) n (g .bases);
-        }
-
-    pub converts : (o : Resolved) → o ≡ resolvedOf ks (both (length ks) l m) → (y : Float) (c : Converted) → Converts nums dens y (o .a) (o .b) n c → c ≡ convertedOf (convertIn tb ks ls ms y)
-    unfolding ready-held
-    converts o e y c h = forth (ready-held o e) nums dens tells-held y c h
+    -- a conversion between them is by the table's rules
+    pub converts : (x : Float) (c : Converted) → Converts nums dens x (o .a) (o .b) n c → c ≡ convertedOf (convert (rulesOf tb) (p .factors) (q .factors) x)
+    converts x c h =
+        let fs = p .factors ++ q .factors in
+        h (viewOf (tb .known) fs) (p .factors) (q .factors) (lends-rows fs)
+        (passed-resolved (listed (p .is)) (view-placed (tb .known) fs) (first-named (p .factors) (q .factors)) (ap (λ (o : Both). o .a) resolves))
+        (passed-resolved (listed (q .is)) (view-placed (tb .known) fs) (second-named (p .factors) (q .factors)) (ap (λ (o : Both). o .b) resolves))
+        ∙ ap (λ R. convertedOf (convert R (p .factors) (q .factors) x)) (rules-are fs)

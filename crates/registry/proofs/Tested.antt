@@ -5,29 +5,25 @@ use mathlib.Core.List.{List, [], _∷_}
 use Prim.Native.Nat.{ℕ, _≤_, _<_}
 use native.Mathlib.Omega.{arith}
 use lib.Dec.{eqb}
-use lib.Ieee.{Float, isNan, lt, sub, mul}
-use lib.Ieee as ieee
+use lib.Ieee.{Float, binary64, isNan, lt, sub, mul}
 use lib.ListN.{length, getD}
 use borrow.Author.Tests.{lt-ltb, le-ltb, ne-eqb}
-use Rattle.exponents.specs.Outcome.{Outcome, given, map, bind}
+use Rattle.exponents.specs.Outcome.{Outcome, given, apply, bind}
 use Rattle.exponents.specs.declared.Exponent.{Exponent}
 use Rattle.exponents.proofs.Holds.{bind-given}
 use Rattle.exponents.proofs.Numbers.{Refuses}
 use Rattle.floats.specs.Values.{isZero, absOf}
 use Rattle.units.specs.declared.Factor.{Factor}
 use Rattle.units.specs.declared.Factors.{Factors}
-use Rattle.units.specs.declared.Rows.{Rows}
 use Rattle.units.specs.Lists.{pack}
 use Rattle.tables.specs.Lists.{base}
-use Rattle.tables.specs.Rows.{pick, Facts, scaleAt}
-use Rattle.tables.specs.Scale.{binary64, scale, sizeBy}
+use Rattle.exponents.specs.Words.{pick}
+use Rattle.tables.specs.Rules.{Rules, scaleBy}
 use Rattle.canonical.specs.Canonical.{sameAll}
 use Rattle.canonical.specs.Equality.{verdictOf}
 use Rattle.canonical.specs.declared.equality.Verdict.the-variants.{Yes, No, Refused}
-use Rattle.lists.specs.Calls.{basesIn}
 use Rattle.lists.proofs.Ends.{bind-refuses}
 use Rattle.quantities.proofs.Converting.{undecided, map-refuses, refuses-as}
-use Rattle.simplification.specs.Rules.{rulesIn}
 use Rattle.registry.specs.Registry.{tiny, larger, close, isSingle, fitting}
 
 -- ---- the larger of two
@@ -46,11 +42,11 @@ module _ (x y : Float) where
     second-larger k = rw (h, k)
 
 -- ---- two scales compared: z tells whether m is zero, a is the magnitude of their difference
-pub close-is : (s t m a : Float) (z : Bool) → m ≡ larger (absOf s) (absOf t) → z ≡ isZero m → a ≡ absOf (sub ieee.binary64 s t) → (z || lt a (mul ieee.binary64 tiny m)) ≡ close s t
+pub close-is : (s t m a : Float) (z : Bool) → m ≡ larger (absOf s) (absOf t) → z ≡ isZero m → a ≡ absOf (sub binary64 s t) → (z || lt a (mul binary64 tiny m)) ≡ close s t
 unfolding close
 close-is s t m a z p q r =
-    ap₂ (λ z a. z || lt a (mul ieee.binary64 tiny m)) q r
-    ∙ ap (λ m. isZero m || lt (absOf (sub ieee.binary64 s t)) (mul ieee.binary64 tiny m)) p
+    ap₂ (λ z a. z || lt a (mul binary64 tiny m)) q r
+    ∙ ap (λ m. isZero m || lt (absOf (sub binary64 s t)) (mul binary64 tiny m)) p
 
 -- ---- one factor to a whole exponent
 pub single : (l : Factors) (fs : List Factor) (d : Factor) → l ≡ pack fs → (eqb (l .len) 1 && eqb (getD (l .at) 0 d .exponent .den) 1) ≡ isSingle fs
@@ -63,29 +59,29 @@ single l fs d e = ap (λ (l : Factors). eqb (l .len) 1 && eqb (getD (l .at) 0 d 
     go (f ∷ g ∷ fs) = ap (λ t. t && eqb (f .exponent .den) 1) (ne-eqb (length (f ∷ g ∷ fs)) 1 (λ z. omega arith))
 
 -- ---- a candidate tested
-module _ (tb : Rows) (ks : List Facts) (most : ℕ) (es : List Exponent) (s : Float) (ms : List Factor) where
+module _ (R : Rules Float) (most : ℕ) (es : List Exponent) (s : Float) (ms : List Factor) where
   abbrev answer : Outcome Bool
-  answer = fitting (rulesIn tb ks) most es s ms
+  answer = fitting R most es s ms
 
   pub too-long : most ≤ length ms → No ≡ verdictOf answer
   unfolding fitting
   too-long h = rw (le-ltb (length ms) most h)
 
   abbrev sized : Outcome Bool
-  sized = map (close s) (scale binary64 (sizeBy (scaleAt ks)) ms)
+  sized = apply (close s) (scaleBy R ms)
 
   abbrev after : List Exponent → Outcome Bool
   after ys = pick (sameAll ys es) sized (given false)
 
   module _ (h : length ms < most) where
-    goes : answer ≡ bind (base (basesIn tb ks) ms) after
+    goes : answer ≡ bind (base (R .bases) ms) after
     unfolding fitting
     goes = rw (lt-ltb (length ms) most h)
 
-    pub no-base : (n : ℕ) → Refuses (base (basesIn tb ks) ms) n → Refused n ≡ verdictOf answer
-    no-base n r = undecided answer n (refuses-as _ answer n goes (bind-refuses (base (basesIn tb ks) ms) after n r))
+    pub no-base : (n : ℕ) → Refuses (base (R .bases) ms) n → Refused n ≡ verdictOf answer
+    no-base n r = undecided answer n (refuses-as _ answer n goes (bind-refuses (base (R .bases) ms) after n r))
 
-    module _ (ys : List Exponent) (e : base (basesIn tb ks) ms ≡ given ys) where
+    module _ (ys : List Exponent) (e : base (R .bases) ms ≡ given ys) where
       units-differ : sameAll ys es ≡ false → answer ≡ given false
       units-differ k = goes ∙ bind-given after e ∙ rw k
 
@@ -96,12 +92,12 @@ module _ (tb : Rows) (ks : List Facts) (most : ℕ) (es : List Exponent) (s : Fl
         goes-on : answer ≡ sized
         goes-on = goes ∙ bind-given after e ∙ rw k
 
-        pub no-scale : (n : ℕ) → Refuses (scale binary64 (sizeBy (scaleAt ks)) ms) n → Refused n ≡ verdictOf answer
-        no-scale n r = undecided answer n (refuses-as _ answer n goes-on (map-refuses (close s) (scale binary64 (sizeBy (scaleAt ks)) ms) n r))
+        pub no-scale : (n : ℕ) → Refuses (scaleBy R ms) n → Refused n ≡ verdictOf answer
+        no-scale n r = undecided answer n (refuses-as _ answer n goes-on (map-refuses (close s) (scaleBy R ms) n r))
 
-        module _ (u : Float) (z : scale binary64 (sizeBy (scaleAt ks)) ms ≡ given u) where
+        module _ (u : Float) (z : scaleBy R ms ≡ given u) where
           closes : answer ≡ given (close s u)
-          closes = goes-on ∙ ap (map (close s)) z
+          closes = goes-on ∙ ap (apply (close s)) z
 
           pub near : close s u ≡ true → Yes ≡ verdictOf answer
           near c = sym (ap verdictOf (closes ∙ ap given c))

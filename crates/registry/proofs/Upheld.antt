@@ -6,11 +6,10 @@ use Prim.Native.Nat.{ℕ}
 use lib.Dec.{ltb, eqb}
 use lib.Ieee.{Float}
 use lib.ListN.{length}
-use Rattle.exponents.specs.Outcome.{Refusal, RANGE, FRACTION, Outcome, given, map}
+use Rattle.exponents.specs.Outcome.{Refusal, RANGE, FRACTION, Outcome, given, apply}
 use Rattle.exponents.specs.declared.Exponent.{Exponent}
-use Rattle.exponents.proofs.Holds.{Holds, held, Only, fine, take-out, holds-any, holds-eq, holds-imp, holds-map, holds-bind, only-map, only-bind}
+use Rattle.exponents.proofs.Holds.{holds-all, Holds, held, Only, fine, take-out, holds-any, holds-eq, holds-imp, holds-map, holds-bind, only-map, only-bind}
 use Rattle.exponents.proofs.Rationals.{value}
-use Rattle.floats.specs.Power.{one}
 use Rattle.units.specs.declared.Factor.{Factor}
 use Rattle.units.specs.declared.Factors.{Factors}
 use Rattle.units.specs.declared.Candidates.{Candidates}
@@ -18,24 +17,22 @@ use Rattle.units.specs.declared.Rows.{Rows}
 use Rattle.units.specs.Lists.{checked}
 use Rattle.tables.specs.declared.Slot.{Slot}
 use Rattle.tables.specs.Lists.{base}
-use Rattle.tables.specs.Rows.{pick, Facts}
-use Rattle.tables.specs.Scale.{binary64, scale}
-use Rattle.tables.proofs.Places.{All}
-use Rattle.tables.proofs.Each.{all-imp, along-all}
+use Rattle.exponents.specs.Words.{pick, All}
+use Rattle.tables.specs.Rows.{Facts, table, baseRows}
+use Rattle.exponents.proofs.Each.{all-imp, along-all}
 use Rattle.tables.proofs.Total.{Total}
+use Rattle.resolution.proofs.Keyed.{admits}
 use Rattle.canonical.specs.Canonical.{sameAll}
 use Rattle.canonical.proofs.Bases.{Agree}
 use Rattle.canonical.proofs.Total.{orderIn-total}
 use Rattle.reduction.specs.Reduction.{reduced}
-use Rattle.lists.specs.Opening.{table, baseRows}
-use Rattle.lists.specs.Calls.{basesIn}
 use Rattle.conversion.proofs.Refusals.{base-only, fraction-only, scale-is}
-use Rattle.simplification.specs.Rules.{Rules, rulesIn, convertBy}
+use Rattle.tables.specs.Rules.{Rules, rulesIn, scaleBy}
+use Rattle.conversion.specs.Conversion.{convert}
 use Rattle.simplification.specs.Steps.{Amount}
 use Rattle.simplification.proofs.Sounding.{every}
 use Rattle.simplification.proofs.Agreed.{agree-self, agree-sym, same-agree}
 use Rattle.simplification.proofs.NeverUnits.{either-only, agreeing-only}
-use Rattle.simplification.proofs.Kept.{admits}
 use Rattle.registry.specs.Registry.{candidateLists, nearOne, isSingle, Turn, wins, stays, after, fitting, turn, chosen, settled, registered}
 use Rattle.registry.proofs.Basis.{reduced-agrees}
 use Rattle.registry.proofs.GivenLists.{candidates-hold}
@@ -49,12 +46,12 @@ abbrev left : Turn → Amount
 left (wins a) = a
 left (stays b) = b
 
-module _ (R : Rules) (now : Amount) where
+module _ (R : Rules Float) (now : Amount) where
   -- ---- P holds of what is answered, if it holds of what is left and of each conversion that may be taken
   module _ (P : Amount → Type 0) where
     -- of what is left, converted to the list m
     abbrev pub Converts : List Factor → Type 0
-    Converts m = Holds (λ x. P (x, m)) (convertBy R (now .1) m (now .0))
+    Converts m = Holds (λ x. P (x, m)) (convert R (now .1) m (now .0))
 
     -- the candidate m is taken only if so
     abbrev Takes : List Exponent → Float → List Factor → Type 0
@@ -88,7 +85,7 @@ module _ (R : Rules) (now : Amount) where
         when (ltb 1 (length (now .1)))
         (λ _.
         holds-bind _ (holds-eq (base (R .bases) (now .1))) λ xs e.
-        holds-bind _ (holds-any (scale binary64 (R .size) (now .1))) λ s _.
+        holds-bind _ (holds-any (scaleBy R (now .1))) λ s _.
         when (isSingle (reduced ss xs) && nearOne s) (λ _. holds-map _ (f xs e .0) λ x q. q) (chosen-has xs s now ms (f xs e .1 s) p))
         (held p)
 
@@ -98,7 +95,7 @@ module _ (R : Rules) (now : Amount) where
 
   -- of the list alone
   on-list : (P : List Factor → Type 0) (m : List Factor) → P m → Converts (λ a. P (a .1)) m
-  on-list P m p = holds-imp (holds-any (convertBy R (now .1) m (now .0))) λ _ _. p
+  on-list P m p = holds-imp (holds-any (convert R (now .1) m (now .0))) λ _ _. p
 
   -- ---- base exponents: xs are those of what is left
   module _ (xs : List Exponent) (e : base (R .bases) (now .1) ≡ given xs) where
@@ -109,7 +106,7 @@ module _ (R : Rules) (now : Amount) where
         (λ _.
         holds-bind _ (holds-eq (base (R .bases) m)) λ ys q.
         when (sameAll ys xs)
-        (λ h. holds-map _ (holds-any (scale binary64 (R .size) m)) λ u _ _. agree-sym value (R .bases) m (now .1) (same-agree value (R .bases) m (now .1) ys xs q e h))
+        (λ h. holds-all _ (scaleBy R m) λ u _. agree-sym value (R .bases) m (now .1) (same-agree value (R .bases) m (now .1) ys xs q e h))
         none)
         none
       where
@@ -123,7 +120,7 @@ module _ (R : Rules) (now : Amount) where
       fitting-only n m =
           either-only S (ltb (length m) n)
           (only-bind _ _ (base-only S range (R .bases) m) λ ys _.
-          either-only S (sameAll ys xs) (only-map _ (fraction-only S fraction (scale-is binary64 (R .size) one m))) fine)
+          either-only S (sameAll ys xs) (only-map _ (fraction-only S fraction (scale-is R (R .numbers .one) m))) fine)
           fine
 
       turn-only : (best : Amount) (m : List Factor) → Only S (turn R xs s now best m)
@@ -131,7 +128,7 @@ module _ (R : Rules) (now : Amount) where
       turn-only best m = only-bind _ _ (fitting-only (length (now .1)) m) λ fits q. go fits (take-out (fitting-agrees s m) q)
         where
           go : (fits : Bool) → (fits ≡ true → Agree value (R .bases) (now .1) m) →
-              Only S (pick fits (map (λ x. pick (eqb (length m) 1) (wins (x, m)) (stays (pick (ltb (length m) (length (best .1))) (x, m) best))) (convertBy R (now .1) m (now .0))) (given (stays best)))
+              Only S (pick fits (apply (λ x. pick (eqb (length m) 1) (wins (x, m)) (stays (pick (ltb (length m) (length (best .1))) (x, m) best))) (convert R (now .1) m (now .0))) (given (stays best)))
           go true a = only-map _ (agreeing-only R O S range fraction (now .1) m (now .0) (a refl))
           go false a = fine
 
@@ -156,7 +153,7 @@ module _ (R : Rules) (now : Amount) where
     only-by O S range fraction =
         either-only S (ltb 1 (length (now .1)))
         (only-bind _ _ (base-only S range (R .bases) (now .1)) λ xs e.
-        only-bind _ _ (fraction-only S fraction (scale-is binary64 (R .size) one (now .1))) λ s _.
+        only-bind _ _ (fraction-only S fraction (scale-is R (R .numbers .one) (now .1))) λ s _.
         either-only S (isSingle (reduced ss xs) && nearOne s)
         (only-map _ (agreeing-only R O S range fraction (now .1) (reduced ss xs) (now .0) (same xs e)))
         (chosen-only xs e O S range fraction s now ms))
@@ -165,7 +162,7 @@ module _ (R : Rules) (now : Amount) where
 -- ---- in an admitted table, whatever the candidates and the value
 module _ (t : Rows) (ks : List Facts) (k : table t ≡ given ks) (ms : List (List Factor)) (now : Amount) where
   -- THEOREM: the base exponents of what is left are kept
-  pub registered-keeps : Holds (λ a. Agree value (basesIn t ks) (now .1) (a .1)) (registered (rulesIn t ks) (baseRows t) ms now)
+  pub registered-keeps : Holds (λ a. Agree value (rulesIn t ks .bases) (now .1) (a .1)) (registered (rulesIn t ks) (baseRows t) ms now)
   registered-keeps = keeps-by (rulesIn t ks) now (baseRows t) ms (reduced-agrees t ks (admits t ks k) (now .1))
 
   -- THEOREM: refused by RANGE and FRACTION alone

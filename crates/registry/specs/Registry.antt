@@ -1,35 +1,26 @@
 -- The registry form (01, "Simplification"): for two or more factors left, the single base unit, then the candidates.
-use mathlib.Core.Path.{_≡_}
-use mathlib.Core.Bool.{Bool, true, false, _&&_, _||_}
+use mathlib.Core.Bool.{Bool, false, _&&_, _||_}
 use mathlib.Core.List.{List, [], _∷_}
 use Prim.Native.Nat.{ℕ, suc}
 use lib.Dec.{eqb, ltb}
-use lib.IntN.{ℤ}
-use lib.Ieee.{Float, ofBits, isNan, lt, sub, mul}
-use lib.Ieee as ieee
-use lib.ListN.{length, take, getD}
-use Rattle.exponents.specs.Outcome.{Outcome, given, refused, SHAPE, number, unless, map, bind}
+use lib.Ieee.{Float, binary64, ofBits, isNan, lt, sub, mul}
+use lib.ListN.{length, take}
+use Rattle.exponents.specs.Words.{pick}
+use Rattle.exponents.specs.Outcome.{Outcome, given, SHAPE, unless, apply, bind}
 use Rattle.exponents.specs.declared.Exponent.{Exponent}
 use Rattle.floats.specs.Power.{one}
 use Rattle.floats.specs.Values.{isZero, absOf}
 use Rattle.units.specs.declared.Factor.{Factor}
 use Rattle.units.specs.declared.Candidate.{Candidate}
 use Rattle.units.specs.declared.Candidates.{Candidates}
-use Rattle.units.specs.declared.Rows.{Rows}
 use Rattle.units.specs.Lists.{checked}
 use Rattle.tables.specs.declared.Slot.{Slot}
 use Rattle.tables.specs.Lists.{base}
-use Rattle.tables.specs.Rows.{pick, Facts, nobody, scaleAt, admitted, admit, packExps}
-use Rattle.tables.specs.Pages.{Paged}
-use Rattle.tables.specs.Items.{View}
-use Rattle.tables.specs.Scale.{binary64, scale}
+use Rattle.tables.specs.Rules.{Rules, scaleBy}
 use Rattle.canonical.specs.Canonical.{sameAll}
 use Rattle.reduction.specs.Reduction.{reduced}
-use Rattle.lists.specs.Opening.{baseRows}
-use Rattle.values.specs.Quantities.{noQuantity}
-use Rattle.simplification.specs.Rules.{Rules, convertBy}
-use Rattle.simplification.specs.Steps.{Amount, quantityOf}
-use Rattle.registry.specs.declared.Choice.{Choice}
+use Rattle.conversion.specs.Conversion.{convert}
+use Rattle.simplification.specs.Steps.{Amount}
 
 -- ---- the candidates given
 
@@ -38,7 +29,7 @@ unfoldable pub listsFrom : ℕ → ℕ → List Candidate → Outcome (List (Lis
 listsFrom rows least [] = given []
 listsFrom rows least (c ∷ cs) =
     unless (ltb (c .rank) least) SHAPE
-    (bind (checked rows (c .unit)) (λ fs. map (λ ms. fs ∷ ms) (listsFrom rows (suc (c .rank)) cs)))
+    (bind (checked rows (c .unit)) (λ fs. apply (λ ms. fs ∷ ms) (listsFrom rows (suc (c .rank)) cs)))
 
 -- more than 32 is SHAPE, before any candidate's list
 unfoldable pub candidateLists : ℕ → Candidates → Outcome (List (List Factor))
@@ -48,11 +39,11 @@ candidateLists rows c = unless (ltb 32 (c .len)) SHAPE (listsFrom rows 0 (take (
 
 -- 1e-9
 abbrev pub tiny : Float
-tiny = ofBits ieee.binary64 0x3e11_2e0b_e826_d695
+tiny = ofBits binary64 0x3e11_2e0b_e826_d695
 
 -- strictly within 1e-9 of 1
 unfoldable pub nearOne : Float → Bool
-nearOne s = lt (absOf (sub ieee.binary64 s one)) tiny
+nearOne s = lt (absOf (sub binary64 s one)) tiny
 
 -- the larger of two, a NaN passed over
 unfoldable pub larger : Float → Float → Float
@@ -62,7 +53,7 @@ larger x y = pick (isNan x) y (pick (isNan y || lt y x) x y)
 unfoldable pub close : Float → Float → Bool
 close s t =
     isZero (larger (absOf s) (absOf t))
-    || lt (absOf (sub ieee.binary64 s t)) (mul ieee.binary64 tiny (larger (absOf s) (absOf t)))
+    || lt (absOf (sub binary64 s t)) (mul binary64 tiny (larger (absOf s) (absOf t)))
 
 -- ---- the single base unit, to a whole exponent
 unfoldable pub isSingle : List Factor → Bool
@@ -80,12 +71,12 @@ unfoldable pub after : Turn → (Amount → Outcome Amount) → Outcome Amount
 after (wins a) next = given a
 after (stays b) next = next b
 
-module _ (R : Rules) where
+module _ (R : Rules Float) where
   -- the tests of a candidate m, in 01's order: fewer factors than n, base exponents xs, scale s
   unfoldable pub fitting : ℕ → List Exponent → Float → List Factor → Outcome Bool
   fitting n xs s m =
       pick (ltb (length m) n)
-      (bind (base (R .bases) m) (λ ys. pick (sameAll ys xs) (map (close s) (scale binary64 (R .size) m)) (given false)))
+      (bind (base (R .bases) m) (λ ys. pick (sameAll ys xs) (apply (close s) (scaleBy R m)) (given false)))
       (given false)
 
   -- the candidate m after the best so far; one that fits is converted even if it can't beat that
@@ -93,7 +84,7 @@ module _ (R : Rules) where
   turn xs s now best m =
       bind (fitting (length (now .1)) xs s m) (λ fits.
       pick fits
-      (map (λ x. pick (eqb (length m) 1) (wins (x, m)) (stays (pick (ltb (length m) (length (best .1))) (x, m) best))) (convertBy R (now .1) m (now .0)))
+      (apply (λ x. pick (eqb (length m) 1) (wins (x, m)) (stays (pick (ltb (length m) (length (best .1))) (x, m) best))) (convert R (now .1) m (now .0)))
       (given (stays best)))
 
   -- the candidates in turn
@@ -105,38 +96,12 @@ module _ (R : Rules) where
   unfoldable pub settled : List Slot → List (List Factor) → Amount → List Exponent → Float → Outcome Amount
   settled ss ms now xs s =
       pick (isSingle (reduced ss xs) && nearOne s)
-      (map (λ x. (x, reduced ss xs)) (convertBy R (now .1) (reduced ss xs) (now .0)))
+      (apply (λ x. (x, reduced ss xs)) (convert R (now .1) (reduced ss xs) (now .0)))
       (chosen xs s now now ms)
 
   -- for two or more factors left: RANGE of their base exponents, FRACTION of their scale, before any test
   unfoldable pub registered : List Slot → List (List Factor) → Amount → Outcome Amount
   registered ss ms now =
       pick (ltb 1 (length (now .1)))
-      (bind (base (R .bases) (now .1)) (λ xs. bind (scale binary64 (R .size) (now .1)) (λ s. settled ss ms now xs s)))
+      (bind (base (R .bases) (now .1)) (λ xs. bind (scaleBy R (now .1)) (λ s. settled ss ms now xs s)))
       (given now)
-
--- ---- how code holds them
-
--- what is known of rows but for their order
-abbrev pub plainView : List Facts → View
-plainView ks = record {
-  exps = λ r. packExps (getD ks r nobody .exps);
-  scale = scaleAt ks;
-  place = λ r. 0;
-  class = λ r. 0;
-  base = λ r. getD ks r nobody .base;
-}
-
--- the table tb is admitted: its rows are known as ks, n of them base, and held in the five arrays
-pub record Held (tb : Rows) (ks : List Facts) (n : ℕ) (nums : List ℤ) (dens : List ℕ) (scales : List Float) (ranks : List ℕ) (based : List Bool) : Type 0 where
-  pub admits : admit tb ≡ admitted ks
-  pub bases : n ≡ length (baseRows tb)
-  pub paged : Paged ks nums dens scales ranks based
-
-abbrev pub turnOf : Turn → Choice
-turnOf (wins a) = record { best = quantityOf a; won = true; refusal = 0 }
-turnOf (stays b) = record { best = quantityOf b; won = false; refusal = 0 }
-
-abbrev pub choiceOf : Outcome Turn → Choice
-choiceOf (given w) = turnOf w
-choiceOf (refused r) = record { best = noQuantity (number r) .quantity; won = false; refusal = number r }

@@ -5,23 +5,20 @@ ghost use mathlib.Core.Bool.{false};
 ghost use mathlib.Core.List.{List};
 ghost use Prim.Native.Nat.{ℕ, _≤_};
 ghost use lib.ListN.{length};
-ghost use Rattle.exponents.specs.Outcome.{given, refusalOf, map};
-ghost use Rattle.exponents.specs.declared.Exponent.{Exponent as Exponentᵛ};
+ghost use Rattle.exponents.specs.Outcome.{given, refusalOf};
 ghost use Rattle.units.specs.declared.Factor.{Factor as Factorᵛ};
 ghost use Rattle.units.specs.declared.Rows.{Rows as Rowsᵛ};
 ghost use Rattle.units.specs.Lists.{checked, pack};
-ghost use Rattle.tables.specs.Rows.{Facts, packExps, admitted, admit};
-ghost use Rattle.tables.specs.Pages.{Room, Sized, Basic, Pages, admittedOf};
-ghost use Rattle.tables.specs.Items.{packItems};
+ghost use Rattle.tables.specs.Rows.{Facts, baseRows};
+ghost use Rattle.tables.specs.Held.{Room, Sized, Basic, packItems, Admits};
 ghost use Rattle.canonical.specs.Equality.{verdictOf};
-ghost use Rattle.lists.specs.Opening.{baseRows};
-ghost use Rattle.quantities.specs.Calls.{convertIn};
-ghost use Rattle.conversion.specs.Conversion.{convertedOf};
+ghost use Rattle.conversion.specs.Conversion as conversions;
+ghost use Rattle.conversion.specs.Held.{convertedOf};
 ghost use Rattle.values.specs.Quantities.{fresh, noQuantity, answeredOf};
-ghost use Rattle.simplification.specs.Rules.{rulesIn};
-ghost use Rattle.simplification.specs.Steps.{quantityOf};
+ghost use Rattle.simplification.specs.Held.{handed};
+ghost use Rattle.simplification.specs.Steps.{Amount, quantityOf};
 ghost use Rattle.registry.specs.Registry as spec;
-ghost use Rattle.registry.specs.Registry.{plainView, Held, choiceOf};
+ghost use Rattle.registry.specs.Held.{plainView, Table, rulesOf, Stored, Checks, Offers, Left, BaseExps, choiceOf};
 ghost use Rattle.registry.specs.Calls as calls;
 use canonical::equality::Verdict;
 use conversion::convert;
@@ -73,7 +70,7 @@ fn candidates_fault(rows: usize, c: Candidates) -> u32
 // A checked list with what is known of its rows, but for their order: enough for base exponents and scale.
 fn plain(scales: &[f64], based: &[bool], l: Factors) -> Items
     requires { ⌜ (length (now scales) ≡ 128) × (length (now based) ≡ 128) ⌝ }
-    ensures { λ r. ⌜ ((ks : List Facts) (fs : List Factorᵛ) → length ks ≤ 128 → Sized ks (now (scales .entry)) → Basic ks (now (based .entry)) → checked (length ks) l ≡ given fs → r ≡ packItems (plainView ks) fs) ⌝ }
+    ensures { λ r. ⌜ ((ks : List Facts) (fs : List Factorᵛ) → length ks ≤ 128 → Sized ks (now (scales .entry)) → Basic ks (now (based .entry)) → checked (length ks) l ≡ given fs → r ≡ packItems (plainView ks fs) fs) ⌝ }
 {
     let n = bases::capped(l.len);
     let mut o = tables::no_items();
@@ -139,7 +136,7 @@ fn fits(
     s: f64,
 ) -> Verdict
     requires { ⌜ Room (now nums) (now dens) (now scales) (now ranks) (now based) ⌝ }
-    ensures { λ r. ⌜ ((tb : Rowsᵛ) (ks : List Facts) (ms : List Factorᵛ) (es : List Exponentᵛ) → Held tb ks n (now (nums .entry)) (now (dens .entry)) (now (scales .entry)) (now (ranks .entry)) (now (based .entry)) → checked (length ks) m ≡ given ms → xs ≡ packExps es → length es ≡ length (baseRows tb) → r ≡ verdictOf (spec.fitting (rulesIn tb ks) most es s ms)) ⌝ }
+    ensures { λ r. ⌜ ((tb : Table) (len : ℕ) (k : Checks tb m) (x : BaseExps tb xs) → Stored tb len n (now (nums .entry)) (now (dens .entry)) (now (scales .entry)) (now (ranks .entry)) (now (based .entry)) → r ≡ verdictOf (spec.fitting (rulesOf tb) most (x .exps) s (k .factors))) ⌝ }
 {
     if most <= m.len {
         return Verdict::No;
@@ -178,7 +175,7 @@ fn converted(
     m: Factors,
 ) -> Converted
     requires { ⌜ Room (now nums) (now dens) (now scales) (now ranks) (now based) ⌝ }
-    ensures { λ r. ⌜ ((tb : Rowsᵛ) (ks : List Facts) (ls ms : List Factorᵛ) → len ≡ length ks → Held tb ks n (now (nums .entry)) (now (dens .entry)) (now (scales .entry)) (now (ranks .entry)) (now (based .entry)) → checked (length ks) l ≡ given ls → checked (length ks) m ≡ given ms → r ≡ convertedOf (convertIn tb ks ls ms v)) ⌝ }
+    ensures { λ r. ⌜ ((tb : Table) (p : Checks tb l) (q : Checks tb m) → Stored tb len n (now (nums .entry)) (now (dens .entry)) (now (scales .entry)) (now (ranks .entry)) (now (based .entry)) → r ≡ convertedOf (conversions.convert (rulesOf tb) (p .factors) (q .factors) v)) ⌝ }
 {
     let none = tables::no_items();
     let o = resolution::resolve(len, nums, dens, scales, ranks, based, l, m, none);
@@ -257,7 +254,7 @@ fn turn(
     s: f64,
 ) -> Choice
     requires { ⌜ Room (now nums) (now dens) (now scales) (now ranks) (now based) ⌝ }
-    ensures { λ r. ⌜ ((tb : Rowsᵛ) (ks : List Facts) (ls bs ms : List Factorᵛ) (es : List Exponentᵛ) → len ≡ length ks → Held tb ks n (now (nums .entry)) (now (dens .entry)) (now (scales .entry)) (now (ranks .entry)) (now (based .entry)) → checked (length ks) (rest .unit) ≡ given ls → best ≡ fresh (best .value) bs → checked (length ks) m ≡ given ms → xs ≡ packExps es → length es ≡ length (baseRows tb) → r ≡ choiceOf (spec.turn (rulesIn tb ks) es s (rest .value, ls) (best .value, bs) ms)) ⌝ }
+    ensures { λ r. ⌜ ((tb : Table) (a : Left tb rest) (b : Amount) (k : Checks tb m) (x : BaseExps tb xs) → best ≡ quantityOf b → Stored tb len n (now (nums .entry)) (now (dens .entry)) (now (scales .entry)) (now (ranks .entry)) (now (based .entry)) → r ≡ choiceOf (spec.turn (rulesOf tb) (x .exps) s (a .amount) b (k .factors))) ⌝ }
 {
     let l = rest.unit;
     let f = fits(n, nums, dens, scales, ranks, based, m, l.len, xs, s);
@@ -297,7 +294,7 @@ fn chosen(
     c: Candidates,
 ) -> Answer
     requires { ⌜ Room (now nums) (now dens) (now scales) (now ranks) (now based) ⌝ }
-    ensures { λ r. ⌜ ((tb : Rowsᵛ) (ks : List Facts) (ls : List Factorᵛ) (ms : List (List Factorᵛ)) (es : List Exponentᵛ) → len ≡ length ks → Held tb ks n (now (nums .entry)) (now (dens .entry)) (now (scales .entry)) (now (ranks .entry)) (now (based .entry)) → rest ≡ fresh (rest .value) ls → checked (length ks) (rest .unit) ≡ given ls → spec.candidateLists (length ks) c ≡ given ms → xs ≡ packExps es → length es ≡ length (baseRows tb) → r ≡ answeredOf (map quantityOf (spec.chosen (rulesIn tb ks) es s (rest .value, ls) (rest .value, ls) ms))) ⌝ }
+    ensures { λ r. ⌜ ((tb : Table) (a : Left tb rest) (k : Offers tb c) (x : BaseExps tb xs) → Stored tb len n (now (nums .entry)) (now (dens .entry)) (now (scales .entry)) (now (ranks .entry)) (now (based .entry)) → r ≡ handed (spec.chosen (rulesOf tb) (x .exps) s (a .amount) (a .amount) (k .lists))) ⌝ }
 {
     let mut o = chose(rest, false);
     let mut i: usize = 0;
@@ -347,7 +344,7 @@ fn registered(
     c: Candidates,
 ) -> Answer
     requires { ⌜ Room (now nums) (now dens) (now scales) (now ranks) (now based) ⌝ }
-    ensures { λ r. ⌜ ((tb : Rowsᵛ) (ks : List Facts) (ls : List Factorᵛ) (ms : List (List Factorᵛ)) → t ≡ admittedOf (baseRows tb) (admitted ks) → Held tb ks (length (baseRows tb)) (now (nums .entry)) (now (dens .entry)) (now (scales .entry)) (now (ranks .entry)) (now (based .entry)) → rest ≡ fresh (rest .value) ls → checked (length ks) (rest .unit) ≡ given ls → spec.candidateLists (length ks) c ≡ given ms → r ≡ answeredOf (map quantityOf (spec.registered (rulesIn tb ks) (baseRows tb) ms (rest .value, ls)))) ⌝ }
+    ensures { λ r. ⌜ ((tb : Table) (a : Left tb rest) (k : Offers tb c) → Admits (tb .rows) t (now (nums .entry)) (now (dens .entry)) (now (scales .entry)) (now (ranks .entry)) (now (based .entry)) → r ≡ handed (spec.registered (rulesOf tb) (baseRows (tb .rows)) (k .lists) (a .amount))) ⌝ }
 {
     let l = rest.unit;
     if l.len < 2 {
@@ -415,7 +412,7 @@ pub fn full_simplify_with_over(
     c: Candidates,
 ) -> Answer
     requires { ⌜ Room (now nums) (now dens) (now scales) (now ranks) (now based) ⌝ }
-    ensures { λ r. ⌜ ((rows : Rowsᵛ) → t ≡ admittedOf (baseRows rows) (admit rows) → Pages (admit rows) (now (nums .entry)) (now (dens .entry)) (now (scales .entry)) (now (ranks .entry)) (now (based .entry)) → r ≡ answeredOf (calls.fullSimplifyWith rows q c)) ⌝ }
+    ensures { λ r. ⌜ ((rows : Rowsᵛ) → Admits rows t (now (nums .entry)) (now (dens .entry)) (now (scales .entry)) (now (ranks .entry)) (now (based .entry)) → r ≡ answeredOf (calls.fullSimplifyWith rows q c)) ⌝ }
 {
     if t.refusal != 0 {
         return answers::refused(t.refusal);

@@ -1,6 +1,5 @@
 // Compares the records of each file that its arguments name, and prints for each how many it compared, how many differ,
 // and the first that does.
-ghost use mathlib.Core.Path.{_≡_};
 ghost use Prim.Native.Nat.{_+_, _≤_};
 ghost use lib.ListN.{length};
 use inflow::Held;

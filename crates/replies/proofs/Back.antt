@@ -6,21 +6,20 @@ use native.Mathlib.Omega.{arith}
 use lib.Dec.{T, eqb}
 use lib.Ieee.{Float, binary64, fits}
 use lib.ListN.{length}
+use Rattle.exponents.specs.Words.{pick, All}
 use Rattle.exponents.specs.Outcome.{given}
 use Rattle.exponents.specs.Fractions.{nought}
 use Rattle.exponents.specs.declared.Exponent.{Exponent}
 use Rattle.units.specs.declared.Factor.{Factor}
 use Rattle.units.specs.Lists.{pack}
-use Rattle.tables.specs.Rows.{pick}
-use Rattle.tables.proofs.Places.{All}
 use Rattle.reduction.specs.Multiple.{Maybe, times, none}
 use Rattle.reduction.specs.Reduction.{reducedOf}
 use Rattle.wire.specs.Bytes.{bytesOf}
 use Rattle.wire.specs.Records.{exponentBytes}
-use Rattle.replies.specs.Replies.{valueBytes, unitBytes, multipleBytes, reducedBytes, multipleAt, reducedAt}
 use Rattle.wire.proofs.Form.{Form, told, then}
 use Rattle.wire.proofs.Round.{ExponentFits, FactorFits, number-form, value-form, exponent-form, list-form}
 use Rattle.wire.proofs.Back.{pack-fits}
+use Rattle.replies.specs.Replies.{valueBytes, unitBytes, multipleBytes, reducedBytes, multipleAt, reducedAt}
 
 -- ---- a multiple
 

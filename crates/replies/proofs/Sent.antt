@@ -7,11 +7,12 @@ use native.Mathlib.Omega.{arith}
 use borrow.Author.Tests.{lt-ltb, le-ltb, ltb-false}
 use lib.ListN.{length, drop, length-append, length-drop}
 use lib.Seq.{sets, sets-eq}
-use Rattle.exponents.specs.Outcome.{Refusal, ROOM, number, Outcome, given, refused, unless, map}
+use Rattle.exponents.specs.Outcome.{Refusal, ROOM, number, Outcome, given, refused, unless, apply}
 use Rattle.exponents.proofs.Holds.{Holds, moot, held, holds-any, holds-bind, holds-unless, bind-given, bind-refused}
 use Rattle.exponents.proofs.Numbers.{Refuses, struct-answers, struct-refuses}
 use Rattle.quantities.proofs.Converting.{map-refuses}
-use Rattle.replies.specs.Replies.{sent, replyOf, left, Replied}
+use Rattle.replies.specs.Replies.{sent, left}
+use Rattle.replies.specs.Held.{replyOf, Replied}
 use Rattle.replies.specs.declared.Reply.{Reply}
 
 -- a refusal's number, or 0, and a length
@@ -41,29 +42,29 @@ module _ (room : List ℕ) (o : Outcome (List ℕ)) (r : Reply) where
         (g ∙ sets-eq bs room 0 (simp zero-add k) ∙ simp zero-add)
 
 module _ {A : Type 0} (bytes : A → List ℕ) (room : List ℕ) (o : Outcome A) (r : Reply) where
-  pub map-passed : (n : ℕ) → Refuses o n → Says n 0 r → Replied room (map bytes o) r room
-  map-passed n w s = passed-on room (map bytes o) r n (map-refuses bytes o n w) s
+  pub map-passed : (n : ℕ) → Refuses o n → Says n 0 r → Replied room (apply bytes o) r room
+  map-passed n w s = passed-on room (apply bytes o) r n (map-refuses bytes o n w) s
 
-  pub map-sent : (a : A) (end : List ℕ) → o ≡ given a → Replied room (given (bytes a)) r end → Replied room (map bytes o) r end
-  map-sent a end e h = subst (λ p. Replied room (map bytes p) r end) (sym e) h
+  pub map-sent : (a : A) (end : List ℕ) → o ≡ given a → Replied room (given (bytes a)) r end → Replied room (apply bytes o) r end
+  map-sent a end e h = subst (λ p. Replied room (apply bytes p) r end) (sym e) h
 
 -- ---- a struct that has the refusal's number in a field: `hand` is how code hands an outcome over
 module _ {A S : Type 0} (hand : Outcome A → S) (field : S → ℕ) (zero : (a : A) → field (hand (given a)) ≡ 0) (numbered : (w : Refusal) → field (hand (refused w)) ≡ number w)
     (bytes : A → List ℕ) (room : List ℕ) (o : Outcome A) (x : S) (e : x ≡ hand o) (r : Reply) where
-  pub refusal-sent : (field x ≡ 0 → ⊥) → Says (field x) 0 r → Replied room (map bytes o) r room
+  pub refusal-sent : (field x ≡ 0 → ⊥) → Says (field x) 0 r → Replied room (apply bytes o) r room
   refusal-sent h s = map-passed bytes room o r (field x) (struct-refuses hand field zero numbered o x e h) s
 
   module _ (h : field x ≡ 0) (size : ℕ) (sized : (a : A) → x ≡ hand (given a) → length (bytes a) ≡ size) where
-    pub room-short : length room < size → Says (number ROOM) 0 r → Replied room (map bytes o) r room
+    pub room-short : length room < size → Says (number ROOM) 0 r → Replied room (apply bytes o) r room
     room-short k s =
         let a = struct-answers hand field zero numbered o x e h in
-        no-room room (map bytes o) r (bytes (a .answer)) (ap (map bytes) (a .is)) size (sized (a .answer) (e ∙ ap hand (a .is))) k s
+        no-room room (apply bytes o) r (bytes (a .answer)) (ap (apply bytes) (a .is)) size (sized (a .answer) (e ∙ ap hand (a .is))) k s
 
-    pub answer-sent : (end : List ℕ) → size ≤ length room → ((a : A) → x ≡ hand (given a) → end ≡ sets room 0 (bytes a)) → Says 0 size r → Replied room (map bytes o) r end
+    pub answer-sent : (end : List ℕ) → size ≤ length room → ((a : A) → x ≡ hand (given a) → end ≡ sets room 0 (bytes a)) → Says 0 size r → Replied room (apply bytes o) r end
     answer-sent end k g s =
         let a = struct-answers hand field zero numbered o x e h in
         let q = e ∙ ap hand (a .is) in
-        written room (map bytes o) r (bytes (a .answer)) (ap (map bytes) (a .is)) size (sized (a .answer) q) end k (g (a .answer) q) s
+        written room (apply bytes o) r (bytes (a .answer)) (ap (apply bytes) (a .is)) size (sized (a .answer) q) end k (g (a .answer) q) s
 
 -- ---- of every reply
 

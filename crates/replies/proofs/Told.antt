@@ -1,6 +1,5 @@
 -- What an enum that was handed over, as code has it, tells of its outcome.
 use mathlib.Core.Path.{_≡_, refl, sym, _∙_, subst}
-use mathlib.Core.Bool.{Bool, true, false}
 use Prim.Native.Nat.{Ordering, Ordering·lt, Ordering·eq, Ordering·gt}
 use lib.Ieee.{Float}
 use Rattle.exponents.specs.Outcome.{Outcome, given, refused}
@@ -8,9 +7,6 @@ use Rattle.exponents.proofs.Numbers.{Refuses}
 use Rattle.units.specs.Prefixes.{prefixFactorOf}
 use Rattle.units.specs.declared.prefixes.PrefixFactor.{PrefixFactor}
 use Rattle.units.specs.declared.prefixes.PrefixFactor.the-variants as factor
-use Rattle.canonical.specs.Equality.{verdictOf}
-use Rattle.canonical.specs.declared.equality.Verdict.{Verdict}
-use Rattle.canonical.specs.declared.equality.Verdict.the-variants as verdict
 use Rattle.reduction.specs.Multiple.{Maybe, times, none, multipleIs}
 use Rattle.reduction.specs.declared.multiples.Multiple.{Multiple}
 use Rattle.reduction.specs.declared.multiples.Multiple.the-variants as multiple
@@ -22,19 +18,6 @@ use Rattle.quantities.specs.declared.comparisons.Compared.the-variants as compa
 module _ {A S : Type 0} (hand : Outcome A → S) (Tells : Outcome A → S → Type 0) (tells : (o : Outcome A) → Tells o (hand o)) where
   told : (o : Outcome A) (x y : S) → x ≡ hand o → x ≡ y → Tells o y
   told o x y e h = subst (Tells o) (sym e ∙ h) (tells o)
-
-abbrev Judges : Outcome Bool → Verdict → Type 0
-Judges o verdict.Yes = o ≡ given true
-Judges o verdict.No = o ≡ given false
-Judges o (verdict.Refused n) = Refuses o n
-
-judges : (o : Outcome Bool) → Judges o (verdictOf o)
-judges (given true) = refl
-judges (given false) = refl
-judges (refused w) = record { why = w; is = refl; numbered = refl }
-
-pub verdict-told : (o : Outcome Bool) (x y : Verdict) → x ≡ verdictOf o → x ≡ y → Judges o y
-verdict-told = told verdictOf Judges judges
 
 abbrev Compares : Outcome Ordering → Compared → Type 0
 Compares o compared.Less = o ≡ given Ordering·lt

@@ -1,21 +1,19 @@
 -- An answer's bytes into lent room (the byte form, "Records"): too little room is ROOM, after every other refusal of the call; a refusal writes nothing.
-use mathlib.Core.Path.{_≡_}
 use mathlib.Core.Bool.{Bool}
 use mathlib.Core.List.{List, _++_}
 use Prim.Native.Nat.{ℕ, Ordering, Ordering·lt, Ordering·eq, Ordering·gt, _+_}
 use lib.Dec.{eqb, ltb}
 use lib.Ieee.{Float, binary64, ofBits, toBits}
 use lib.ListN.{length, drop}
-use Rattle.exponents.specs.Outcome.{Outcome, given, refused, ROOM, number, unless, bind}
+use Rattle.exponents.specs.Words.{pick}
+use Rattle.exponents.specs.Outcome.{Outcome, given, refused, ROOM, unless, bind}
 use Rattle.exponents.specs.Fractions.{nought}
 use Rattle.units.specs.declared.Factor.{Factor}
 use Rattle.units.specs.Lists.{pack}
-use Rattle.tables.specs.Rows.{pick}
 use Rattle.reduction.specs.Multiple.{Maybe, times, none}
 use Rattle.reduction.specs.declared.reduce.Reduced.{Reduced}
 use Rattle.wire.specs.Bytes.{le, bytesOf}
 use Rattle.wire.specs.Records.{exponentAt, listAt, exponentBytes, listBytes, flag}
-use Rattle.replies.specs.declared.Reply.{Reply}
 
 -- ---- the room
 
@@ -23,19 +21,10 @@ use Rattle.replies.specs.declared.Reply.{Reply}
 unfoldable pub sent : List ℕ → Outcome (List ℕ) → Outcome (List ℕ)
 sent room o = bind o (λ bs. unless (ltb (length room) (length bs)) ROOM (given bs))
 
--- 0 and the answer's length, or the refusal's number
-abbrev pub replyOf : Outcome (List ℕ) → Reply
-replyOf (given bs) = record { refusal = 0; len = length bs }
-replyOf (refused r) = record { refusal = number r; len = 0 }
-
 -- what the room holds at the end: the answer before its own further bytes; after a refusal its own bytes
 abbrev pub left : List ℕ → Outcome (List ℕ) → List ℕ
 left room (given bs) = bs ++ drop (length bs) room
 left room (refused r) = room
-
--- the call whose answer is o replies r into the room and leaves end there
-abbrev pub Replied : List ℕ → Outcome (List ℕ) → Reply → List ℕ → Type 0
-Replied room o r end = (r ≡ replyOf (sent room o)) × (end ≡ left room (sent room o))
 
 -- ---- the answers' bytes
 

@@ -6,7 +6,7 @@ ghost use mathlib.Core.Path.{_≡_};
 ghost use Prim.Native.Nat.{Ordering, _+_, _≤_};
 ghost use lib.Ieee.{Float};
 ghost use lib.ListN.{length};
-ghost use Rattle.exponents.specs.Outcome.{Outcome, given, map};
+ghost use Rattle.exponents.specs.Outcome.{Outcome, given, apply};
 ghost use Rattle.units.specs.Lists.{madeOf};
 ghost use Rattle.units.specs.Prefixes.{prefixFactorOf};
 ghost use Rattle.units.specs.declared.Factor.{Factor as Factorᵛ};
@@ -18,7 +18,8 @@ ghost use Rattle.values.specs.Quantities.{answeredOf};
 ghost use Rattle.quantities.specs.Comparisons.{comparedOf};
 ghost use Rattle.wire.specs.Bytes.{bytesOf};
 ghost use Rattle.wire.specs.Records.{exponentBytes, quantityBytes};
-ghost use Rattle.replies.specs.Replies.{Replied, unitBytes, valueBytes, reducedBytes, verdictBytes, orderBytes, multipleBytes, multipleAt, reducedAt};
+ghost use Rattle.replies.specs.Held.{Replied};
+ghost use Rattle.replies.specs.Replies.{unitBytes, valueBytes, reducedBytes, verdictBytes, orderBytes, multipleBytes, multipleAt, reducedAt};
 use canonical::equality::Verdict;
 use exponents::Exponent;
 use exponents::refusals::ROOM;
@@ -61,7 +62,7 @@ fn answered(len: usize) -> Reply
 // ---- lists and quantities
 
 pub fn unit(m: Made, out: &mut [u8]) -> Reply
-    ensures { λ r. ⌜ ((o : Outcome (List Factorᵛ)) → m ≡ madeOf o → Replied (now (out .entry)) (map unitBytes o) r (now (out .exit))) ⌝ }
+    ensures { λ r. ⌜ ((o : Outcome (List Factorᵛ)) → m ≡ madeOf o → Replied (now (out .entry)) (apply unitBytes o) r (now (out .exit))) ⌝ }
 {
     if m.refusal != 0 {
         return refused(m.refusal);
@@ -75,7 +76,7 @@ pub fn unit(m: Made, out: &mut [u8]) -> Reply
 }
 
 pub fn quantity(a: Answer, out: &mut [u8]) -> Reply
-    ensures { λ r. ⌜ ((o : Outcome Quantityᵛ) → a ≡ answeredOf o → Replied (now (out .entry)) (map quantityBytes o) r (now (out .exit))) ⌝ }
+    ensures { λ r. ⌜ ((o : Outcome Quantityᵛ) → a ≡ answeredOf o → Replied (now (out .entry)) (apply quantityBytes o) r (now (out .exit))) ⌝ }
 {
     if a.refusal != 0 {
         return refused(a.refusal);
@@ -89,7 +90,7 @@ pub fn quantity(a: Answer, out: &mut [u8]) -> Reply
 }
 
 pub fn reduced(x: Reduced, out: &mut [u8]) -> Reply
-    ensures { λ r. ⌜ ((o : Outcome (List Factorᵛ × Float)) → x ≡ reducedOf o → Replied (now (out .entry)) (map reducedBytes o) r (now (out .exit))) ⌝ }
+    ensures { λ r. ⌜ ((o : Outcome (List Factorᵛ × Float)) → x ≡ reducedOf o → Replied (now (out .entry)) (apply reducedBytes o) r (now (out .exit))) ⌝ }
 {
     if x.refusal != 0 {
         return refused(x.refusal);
@@ -116,7 +117,7 @@ fn number(x: u32, out: &mut [u8]) -> Reply
 }
 
 pub fn verdict(v: Verdict, out: &mut [u8]) -> Reply
-    ensures { λ r. ⌜ ((o : Outcome Bool) → v ≡ verdictOf o → Replied (now (out .entry)) (map verdictBytes o) r (now (out .exit))) ⌝ }
+    ensures { λ r. ⌜ ((o : Outcome Bool) → v ≡ verdictOf o → Replied (now (out .entry)) (apply verdictBytes o) r (now (out .exit))) ⌝ }
 {
     match v {
         Verdict::Yes => number(1, out),
@@ -126,7 +127,7 @@ pub fn verdict(v: Verdict, out: &mut [u8]) -> Reply
 }
 
 pub fn order(c: Compared, out: &mut [u8]) -> Reply
-    ensures { λ r. ⌜ ((o : Outcome Ordering) → c ≡ comparedOf o → Replied (now (out .entry)) (map orderBytes o) r (now (out .exit))) ⌝ }
+    ensures { λ r. ⌜ ((o : Outcome Ordering) → c ≡ comparedOf o → Replied (now (out .entry)) (apply orderBytes o) r (now (out .exit))) ⌝ }
 {
     match c {
         Compared::Less => number(0, out),
@@ -147,7 +148,7 @@ fn value(x: f64, out: &mut [u8]) -> Reply
 }
 
 pub fn factor(p: PrefixFactor, out: &mut [u8]) -> Reply
-    ensures { λ r. ⌜ ((o : Outcome Float) → p ≡ prefixFactorOf o → Replied (now (out .entry)) (map valueBytes o) r (now (out .exit))) ⌝ }
+    ensures { λ r. ⌜ ((o : Outcome Float) → p ≡ prefixFactorOf o → Replied (now (out .entry)) (apply valueBytes o) r (now (out .exit))) ⌝ }
 {
     match p {
         PrefixFactor::Value(x) => value(x, out),
@@ -176,7 +177,7 @@ fn none(out: &mut [u8]) -> Reply
 }
 
 pub fn multiple(m: Multiple, out: &mut [u8]) -> Reply
-    ensures { λ r. ⌜ ((o : Outcome Maybe) → m ≡ multipleIs o → Replied (now (out .entry)) (map multipleBytes o) r (now (out .exit))) ⌝ }
+    ensures { λ r. ⌜ ((o : Outcome Maybe) → m ≡ multipleIs o → Replied (now (out .entry)) (apply multipleBytes o) r (now (out .exit))) ⌝ }
 {
     match m {
         Multiple::Times(e) => found(1, e, out),

@@ -1,6 +1,6 @@
 // Every call from bytes to bytes: the table and the arguments as bytes, the answer into lent room.
 // The calls of the byte form, under its names.
-ghost use Rattle.replies.specs.Replies.{Replied};
+ghost use Rattle.replies.specs.Held.{Replied};
 ghost use Rattle.requests.specs.Calls as spec;
 use replies::Reply;
 use wire::arguments;

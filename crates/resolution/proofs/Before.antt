@@ -6,8 +6,8 @@ use Prim.Native.Nat.{ℕ, _+_, _<_, _≤_, Ordering}
 use native.Mathlib.Omega.{arith}
 use lib.ListN.{length, drop, getD, drop-of-length-le}
 use Rattle.units.specs.declared.Factor.{Factor}
-use Rattle.tables.specs.Items.{isLess, tally, before}
-use Rattle.tables.proofs.Places.{rest}
+use Rattle.tables.specs.Held.{isLess, tally, before}
+use Rattle.exponents.proofs.Places.{rest}
 
 pub tally-most : (t : Bool) (n : ℕ) → tally t n ≤ n + 1
 unfolding tally

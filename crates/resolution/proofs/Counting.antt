@@ -10,13 +10,14 @@ use lib.ListN.{length, drop, getD}
 use borrow.Author.Tests.{lt-ltb, le-ltb}
 use Rattle.units.specs.declared.Factor.{Factor}
 use Rattle.units.specs.Lists.{noFactor}
-use Rattle.tables.specs.Key.{entries}
-use Rattle.tables.specs.Orders.{then, lists, pairs, senseOf, keyAt}
+use Rattle.keys.specs.Key.{entries}
+use Rattle.keys.specs.Orders.{then, lists, pairs}
+use Rattle.keys.specs.Held.{senseOf, keyAt}
+use Rattle.tables.specs.Held.{Ranked, isLess, tally, before}
 use Rattle.tables.specs.Rows.{Facts, nobody}
-use Rattle.tables.specs.Pages.{Ranked}
-use Rattle.tables.specs.Items.{isLess, tally, before, keyOrder, rowOrder}
-use Rattle.tables.specs.declared.order.Sense.the-variants.{Less, Equal, Greater}
-use Rattle.resolution.specs.Resolve.{Named, countBy, countOf}
+use Rattle.tables.specs.Order.{keyOrder, rowOrder}
+use Rattle.keys.specs.declared.order.Sense.the-variants.{Less, Equal, Greater}
+use Rattle.resolution.specs.Held.{Named, countBy, countOf}
 use Rattle.resolution.specs.declared.Count.{Count}
 use Rattle.resolution.proofs.KeyPads.{entries-packed}
 use Rattle.resolution.proofs.Before.{tally-most, before-on, before-end}

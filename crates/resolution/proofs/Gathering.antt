@@ -21,14 +21,13 @@ use Rattle.units.specs.Lists.{noFactor, listOf, some, unknown, checked, both}
 use Rattle.units.proofs.Laws.{listed, none-at}
 use Rattle.units.proofs.Checked.{short, passes, first-passed, second-passed, both-pass}
 use Rattle.tables.specs.declared.Items.{Items}
-use Rattle.tables.specs.declared.keys.Key.{Key}
-use Rattle.tables.specs.Key.{key, keyedOf}
-use Rattle.tables.specs.Orders.{keyAt}
-use Rattle.tables.specs.Rows.{Facts, nobody, packExps}
-use Rattle.tables.specs.Items.{viewOf, packItems}
-use Rattle.tables.proofs.Places.{rest}
+use Rattle.keys.specs.declared.making.Key.{Key}
+use Rattle.keys.specs.Key.{key}
+use Rattle.keys.specs.Held.{keyedOf, keyAt}
+use Rattle.tables.specs.Held.{packExps, viewOf, packItems}
+use Rattle.tables.specs.Rows.{Facts, nobody}
 use Rattle.resolution.specs.declared.Resolved.{Resolved}
-use Rattle.resolution.specs.Resolve.{Keyed, Named, Within, packKey, unresolved, resolvedOf}
+use Rattle.resolution.specs.Held.{Keyed, Named, Within, packKey, unresolved, resolvedOf}
 use Rattle.resolution.proofs.KeyPads.{key-packed}
 
 -- ---- two lists that passed, with so many rows
@@ -108,12 +107,7 @@ module _ {ks : List Facts} (h : Keyed ks) (r : ℕ) (there : r < length ks) (e :
 
 -- ---- what is gathered, one factor more
 
--- a key put number by number
-pub put-on : (keys k : List ℤ) (at i : ℕ) (d : ℤ) → i < length k → sets (set keys (at + i) (getD k i d)) (at + (i + 1)) (drop (i + 1) k) ≡ sets keys (at + i) (drop i k)
-put-on keys k at i d h =
-    ap (λ n. sets (set keys (at + i) (getD k i d)) n (drop (i + 1) k)) (omega arith)
-    ∙ sym (ap (sets keys (at + i)) (rest k d i h))
-
+-- a key put number by number: at its end
 pub put-end : (keys k : List ℤ) (at i : ℕ) → length k ≤ i → sets keys (at + i) (drop i k) ≡ keys
 put-end keys k at i h = ap (sets keys (at + i)) (drop-of-length-le k h)
 

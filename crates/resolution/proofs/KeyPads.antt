@@ -8,17 +8,17 @@ use native.Mathlib.Omega.{arith}
 use lib.IntN.{ℤ, pos, negsuc, natAbs}
 use lib.ListN.{length, replicate}
 use lib.Signed.{quotZ}
-use Rattle.exponents.specs.Outcome.{Outcome, given, bind}
+use Rattle.exponents.specs.Outcome.{Outcome, given, bind, apply}
 use Rattle.exponents.specs.Outcome as outcome
 use Rattle.exponents.specs.Gcd.{gcd}
 use Rattle.exponents.specs.Fractions.{nought}
 use Rattle.exponents.specs.declared.Exponent.{Exponent}
 use Rattle.exponents.proofs.Divisors.{gcd-zero}
-use Rattle.exponents.proofs.Holds.{Holds, held, moot, take-out, holds-map, holds-any, bind-given}
-use Rattle.tables.specs.Key.{multiple, whole, wholes, divisor, below, turn, shrink, reduce, key, entry, entries}
-use Rattle.tables.specs.Rows.{packExps}
-use Rattle.resolution.specs.Resolve.{packKey}
-use Rattle.tables.proofs.KeyLaws.{Denominator, lcm-range, lcm-one}
+use Rattle.exponents.proofs.Holds.{holds-all, Holds, held, moot, take-out, bind-given}
+use Rattle.keys.specs.Key.{multiple, whole, wholes, divisor, below, turn, shrink, reduce, key, entry, entries}
+use Rattle.tables.specs.Held.{packExps}
+use Rattle.resolution.specs.Held.{packKey}
+use Rattle.keys.proofs.KeyLaws.{Denominator, lcm-range, lcm-one}
 
 abbrev noughts : ℕ → List Exponent
 noughts n = replicate n nought
@@ -94,11 +94,11 @@ reduce-pad n w = ap₂ (λ (s : Bool) (g : ℕ). shrink s g (w ++ zeros n)) (bel
 
 -- ---- the key
 
-key-pad : (n : ℕ) (d : List Exponent) → key (d ++ noughts n) ≡ outcome.map (λ k. k ++ zeros n) (key d)
+key-pad : (n : ℕ) (d : List Exponent) → key (d ++ noughts n) ≡ apply (λ k. k ++ zeros n) (key d)
 unfolding key
-key-pad n d = ap (outcome.map (λ m. reduce (wholes m (d ++ noughts n)))) (multiple-pad n 1 d (omega arith, omega arith)) ∙ go (multiple 1 d)
+key-pad n d = ap (apply (λ m. reduce (wholes m (d ++ noughts n)))) (multiple-pad n 1 d (omega arith, omega arith)) ∙ go (multiple 1 d)
   where
-    go : (o : Outcome ℕ) → outcome.map (λ m. reduce (wholes m (d ++ noughts n))) o ≡ outcome.map (λ k. k ++ zeros n) (outcome.map (λ m. reduce (wholes m d)) o)
+    go : (o : Outcome ℕ) → apply (λ m. reduce (wholes m (d ++ noughts n))) o ≡ apply (λ k. k ++ zeros n) (apply (λ m. reduce (wholes m d)) o)
     go (given m) = ap (λ w. given (reduce w)) (wholes-pad n m d) ∙ ap given (reduce-pad n (wholes m d))
     go (outcome.refused r) = refl
 
@@ -115,12 +115,12 @@ long-shrink s g (z ∷ w) = ap suc (long-shrink s g w)
 -- a key has a number for each base row
 pub long-key : (d : List Exponent) (k : List ℤ) → key d ≡ given k → length k ≡ length d
 unfolding key reduce
-long-key d k e = take-out {P = λ k. length k ≡ length d} (holds-map _ (holds-any (multiple 1 d)) λ m u. long-shrink (below (wholes m d)) (divisor 0 (wholes m d)) (wholes m d) ∙ long-wholes m d) e
+long-key d k e = take-out {P = λ k. length k ≡ length d} (holds-all _ (multiple 1 d) λ m. long-shrink (below (wholes m d)) (divisor 0 (wholes m d)) (wholes m d) ∙ long-wholes m d) e
 
 -- on sixteen places
 pub key-packed : (d : List Exponent) (k : List ℤ) → key d ≡ given k → key (packExps d) ≡ given (packKey k)
 unfolding packExps packKey
-key-packed d k e = key-pad (16 - length d) d ∙ ap (outcome.map (λ k. k ++ zeros (16 - length d))) e ∙ ap (λ n. given (k ++ zeros (16 - n))) (sym (long-key d k e))
+key-packed d k e = key-pad (16 - length d) d ∙ ap (apply (λ k. k ++ zeros (16 - length d))) e ∙ ap (λ n. given (k ++ zeros (16 - n))) (sym (long-key d k e))
 
 -- ---- entries
 

@@ -1,15 +1,16 @@
 -- How many named rows come before a row tells where it stands: counts compare as the rows do. So places tell the order of rows, classes that of keys.
 use mathlib.Core.Path.{_≡_, refl, sym, _∙_, ap, ap₂}
-use mathlib.Core.Logic.{_⊎_, inl, inr}
+use mathlib.Core.Logic.{inl, inr}
 use mathlib.Core.List.{List, [], _∷_, _++_}
-use Prim.Native.Nat.{ℕ, zero, suc, _+_, _<_, _≤_, compare, Ordering, Ordering·lt, Ordering·eq, Ordering·gt}
+use Prim.Native.Nat.{ℕ, _+_, _≤_, compare, Ordering, Ordering·lt, Ordering·eq, Ordering·gt}
 use native.Mathlib.Omega.{arith}
-use lib.ListN.{length, getD}
+use lib.ListN.{getD}
 use Rattle.units.specs.declared.Factor.{Factor}
-use Rattle.tables.specs.Key.{entries}
+use Rattle.keys.specs.Key.{entries}
 use Rattle.tables.specs.Rows.{Facts, nobody}
-use Rattle.tables.specs.Items.{isLess, tally, before, keyOrder, rowOrder}
-use Rattle.tables.proofs.KeyOrder.{same-nat, less-nat, more-nat}
+use Rattle.tables.specs.Held.{isLess, tally, before, Stands}
+use Rattle.tables.specs.Order.{keyOrder, rowOrder}
+use Rattle.keys.proofs.KeyOrder.{same-nat, less-nat, more-nat}
 use Rattle.tables.proofs.Total.{swap, Total, both-total, lists-total, nat-total, z-total, rows-total}
 
 -- ---- orders in which different rows may stand at one place
@@ -35,15 +36,6 @@ unfolding keyOrder
 keys-pre ks = through-pre (lists-total (both-total nat-total z-total)) (λ r. entries 0 (getD ks r nobody .key))
 
 -- ---- the rows that a list names
-
-abbrev pub Stands : ℕ → List Factor → Type 0
-Stands r [] = ⊥
-Stands r (f ∷ l) = (f .row ≡ r) ⊎ Stands r l
-
-pub stands-at : (l : List Factor) (i : ℕ) (d : Factor) → i < length l → Stands (getD l i d .row) l
-stands-at [] i d h = absurd (omega arith)
-stands-at (f ∷ l) zero d h = inl refl
-stands-at (f ∷ l) (suc i) d h = inr (stands-at l i d (omega arith))
 
 pub stands-first : (r : ℕ) (l m : List Factor) → Stands r l → Stands r (l ++ m)
 stands-first r (f ∷ l) m (inl e) = inl e

@@ -1,1 +1,1 @@
-pub mod Resolve
+pub mod Held

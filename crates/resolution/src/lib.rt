@@ -4,21 +4,21 @@ ghost use mathlib.Core.Path.{_≡_};
 ghost use mathlib.Core.Bool.{false};
 ghost use mathlib.Core.List.{List};
 ghost use Prim.Native.Nat.{_+_, _≤_, _<_, compare, Ordering};
-ghost use lib.ListN.{length, getD, take, drop};
+ghost use lib.ListN.{length, getD};
 ghost use lib.Seq.{sets};
 ghost use Rattle.floats.specs.Power.{one};
 ghost use Rattle.units.specs.declared.Factor.{Factor as Factorᵛ};
 ghost use Rattle.units.specs.Lists.{both, listOf};
-ghost use Rattle.tables.specs.Orders.{then, senseOf};
+ghost use Rattle.keys.specs.Orders.{then};
+ghost use Rattle.keys.specs.Held.{senseOf};
+ghost use Rattle.tables.specs.Held.{Room, isLess, viewOf, packItems, noItems};
 ghost use Rattle.tables.specs.Rows.{Facts};
-ghost use Rattle.tables.specs.Pages.{Room, Paged, Sized, Ranked, Basic};
-ghost use Rattle.tables.specs.Items.{isLess, viewOf, packItems};
-ghost use Rattle.resolution.specs.Resolve.{noItems, Named, Within, countBy, countOf, itemBy, unresolved, Keyed, resolvedOf};
+ghost use Rattle.resolution.specs.Held.{Counts, Fills, Space, Reads, countBy, countOf, itemBy, unresolved, resolvedOf};
 use exponents::refusals::TABLE;
+use keys::order;
+use keys::order::Sense;
 use tables::Item;
 use tables::Items;
-use tables::order;
-use tables::order::Sense;
 use tables::pages;
 use units::Factor;
 use units::Factors;
@@ -70,8 +70,8 @@ fn counted(c: Count, o: Sense, low: bool) -> Count
 
 // How many of the n factors named come before the one at place i. `named` has their rows, `keys` the keys of these.
 fn count_of(keys: &[i64], named: &[u32], ranks: &[u16], i: usize, n: usize) -> Count
-    requires { ⌜ (i < n) × (n ≤ 32) × (length (now keys) ≡ 512) × (length (now named) ≡ 32) × (length (now ranks) ≡ 128) × Within n (now named) ⌝ }
-    ensures { λ r. ⌜ ((ks : List Facts) (l : List Factorᵛ) → Named ks l n (now (named .entry)) (now (keys .entry)) → n ≡ length l → Ranked ks (now (ranks .entry)) → r ≡ countOf ks l (getD (now (named .entry)) i 0)) ⌝ }
+    requires { ⌜ (i < n) × (length (now ranks) ≡ 128) × Space n (now named) (now keys) ⌝ }
+    ensures { λ r. ⌜ ((ks : List Facts) (l : List Factorᵛ) → Counts ks l n (now (named .entry)) (now (keys .entry)) (now (ranks .entry)) → r ≡ countOf ks l (getD (now (named .entry)) i 0)) ⌝ }
 {
     let s = named[i];
     let b = ranks[s as usize];
@@ -125,8 +125,8 @@ fn items(
     based: &[bool],
     none: Items,
 ) -> Items
-    requires { ⌜ (l .len ≤ 16) × (from + l .len ≤ n) × (n ≤ 32) × (length (now keys) ≡ 512) × (length (now named) ≡ 32) × Within n (now named) × (length (now scales) ≡ 128) × (length (now ranks) ≡ 128) × (length (now based) ≡ 128) ⌝ }
-    ensures { λ r. ⌜ (none ≡ noItems → (ks : List Facts) (fs : List Factorᵛ) → Named ks fs n (now (named .entry)) (now (keys .entry)) → n ≡ length fs → listOf l ≡ take (l .len) (drop from fs) → Sized ks (now (scales .entry)) → Ranked ks (now (ranks .entry)) → Basic ks (now (based .entry)) → r ≡ packItems (viewOf ks fs) (listOf l)) ⌝ }
+    requires { ⌜ (l .len ≤ 16) × (from + l .len ≤ n) × (length (now scales) ≡ 128) × (length (now ranks) ≡ 128) × (length (now based) ≡ 128) × Space n (now named) (now keys) ⌝ }
+    ensures { λ r. ⌜ ((ks : List Facts) (fs : List Factorᵛ) → Fills ks fs n l from none (now (named .entry)) (now (keys .entry)) (now (scales .entry)) (now (ranks .entry)) (now (based .entry)) → r ≡ packItems (viewOf ks fs) (listOf l)) ⌝ }
 {
     let mut o = none;
     let m = l.len;
@@ -167,7 +167,7 @@ pub fn resolve(
     none: Items,
 ) -> Resolved
     requires { ⌜ Room (now nums) (now dens) (now scales) (now ranks) (now based) ⌝ }
-    ensures { λ r. ⌜ (none ≡ noItems → (ks : List Facts) → len ≡ length ks → Paged ks (now (nums .entry)) (now (dens .entry)) (now (scales .entry)) (now (ranks .entry)) (now (based .entry)) → Keyed ks → r ≡ resolvedOf ks (both (length ks) a b)) ⌝ }
+    ensures { λ r. ⌜ ((ks : List Facts) → Reads ks len none (now (nums .entry)) (now (dens .entry)) (now (scales .entry)) (now (ranks .entry)) (now (based .entry)) → r ≡ resolvedOf ks (both (length ks) a b)) ⌝ }
 {
     if 128 < len {
         return refused(TABLE, none);
@@ -184,7 +184,7 @@ pub fn resolve(
     while i < m {
         let f = if i < n { a.at[i] } else { b.at[i - n] };
         let e = pages::exps_at(nums, dens, (f.row as usize) * 16);
-        let q = tables::keys::key_of(e);
+        let q = keys::making::key_of(e);
         if q.refusal != 0 {
             return refused(q.refusal, none);
         }

@@ -2,16 +2,15 @@
 use mathlib.Core.Path.{_≡_, refl, sym, _∙_, ap, subst}
 use mathlib.Core.Bool.{true, false, true≢false}
 use mathlib.Core.List.{List, [], _∷_, _++_}
-use Prim.Native.Nat.{ℕ, Ordering}
+use Prim.Native.Nat.{ℕ}
 use Rattle.exponents.specs.Outcome.{given}
 use Rattle.exponents.specs.declared.Exponent.{Exponent}
 use Rattle.exponents.proofs.Holds.{Holds, moot, held, take-out, holds-by}
 use Rattle.exponents.proofs.Value.{Value}
 use Rattle.units.specs.declared.Factor.{Factor}
 use Rattle.tables.specs.Lists.{base}
-use Rattle.tables.specs.Scale.{Numbers}
+use Rattle.tables.specs.Rules.{Rules}
 use Rattle.tables.proofs.Total.{Total}
-use Rattle.canonical.specs.Order.{Atom}
 use Rattle.canonical.specs.Canonical.{canon, sameAll}
 use Rattle.canonical.proofs.Algebra.{exact, exact-join, exact-canon, exact-equal}
 use Rattle.canonical.proofs.Bases.{Agree, base-decides, agree-map, agree-all}
@@ -47,19 +46,19 @@ module _ (W : Value) where
     pub agree-same : Agree W bs l m → sameAll xs ys ≡ true
     agree-same = found (sameAll xs ys) (base-decides W bs l m xs ys p q)
 
-  module _ (cmp : Atom → Atom → Ordering) (O : Total cmp) (bs : List (ℕ → Exponent)) where
+  module _ {A : Type 0} (R : Rules A) (O : Total (R .order)) where
     -- the canonical form agrees
-    pub canon-agree : (l : List Factor) → Holds (λ c. Agree W bs l c) (canon cmp l)
-    canon-agree l = holds-by _ (canon cmp l) λ c e. agree-all W bs l c λ b. sym (take-out (exact-canon W cmp O l b) e)
+    pub canon-agree : (l : List Factor) → Holds (λ c. Agree W (R .bases) l c) (canon (R .order) l)
+    canon-agree l = holds-by _ (canon (R .order) l) λ c e. agree-all W (R .bases) l c λ b. sym (take-out (exact-canon W (R .order) O l b) e)
 
     -- ---- a conversion of a nonzero value that answers: the lists agree
-    module _ {R : Type 0} (N : Numbers R) (size : Factor → R) (l m : List Factor) (v : R) (n : N .isZero v ≡ false) where
-      answer-agree : (k : Case cmp bs W N size l m v) → Holds (λ _. Agree W bs l m) (answer cmp bs W N size k)
+    module _ (l m : List Factor) (v : A) (n : R .numbers .isZero v ≡ false) where
+      answer-agree : (k : Case R W l m v) → Holds (λ _. Agree W (R .bases) l m) (answer R W k)
       answer-agree (zero el em z) = absurd (true≢false (sym z ∙ n))
-      answer-agree (equal {c} el em) = held (agree-all W bs l m (exact-equal W cmp O l m c el em))
+      answer-agree (equal {c} el em) = held (agree-all W (R .bases) l m (exact-equal W (R .order) O l m c el em))
       answer-agree (stopped s) = moot
       answer-agree (units s u) = moot
       answer-agree (value s a) = holds-by _ _ λ _ _. a
 
-      pub convert-agree : Holds (λ _. Agree W bs l m) (convert cmp bs N size l m v)
-      convert-agree = subst (λ o. Holds (λ _. Agree W bs l m) o) (sym (faithful cmp bs W O N size l m v (case cmp bs W O N size l m v))) (answer-agree (case cmp bs W O N size l m v))
+      pub convert-agree : Holds (λ _. Agree W (R .bases) l m) (convert R l m v)
+      convert-agree = subst (λ o. Holds (λ _. Agree W (R .bases) l m) o) (sym (faithful R W O l m v (case R W O l m v))) (answer-agree (case R W O l m v))

@@ -2,8 +2,6 @@ pub mod Marked
 pub mod Stepping
 pub mod Sounding
 pub mod Turns
-pub mod Viewed
 pub mod Agreed
 pub mod NeverUnits
 pub mod Kept
-pub mod Lending

@@ -14,20 +14,19 @@ use Rattle.exponents.proofs.InRange.{ranged-only}
 use Rattle.exponents.proofs.Rationals.{value}
 use Rattle.floats.specs.Power.{one}
 use Rattle.units.specs.declared.Factor.{Factor}
-use Rattle.tables.specs.Rows.{pick}
-use Rattle.tables.specs.Scale.{binary64}
-use Rattle.tables.proofs.Places.{All}
+use Rattle.exponents.specs.Words.{pick, All}
 use Rattle.tables.proofs.Total.{Total}
 use Rattle.canonical.specs.Canonical.{canon, sameAll, allNought}
 use Rattle.canonical.proofs.Bases.{Agree}
-use Rattle.canonical.proofs.Keeping.{pick-is}
+use Rattle.exponents.proofs.Words.{pick-is}
 use Rattle.reduction.specs.Multiple.{Maybe, times, none, firstBase, fits, multipleOf, isMultiple}
 use Rattle.conversion.proofs.Faithful.{convert-only}
 use Rattle.conversion.proofs.Refusals.{range-not-units, units-not-fraction, sum-only, each-only, base-only, canon-only}
 use Rattle.targets.specs.Single.{wholly, search, single}
 use Rattle.targets.specs.Groups.{share, summed, fitted, target, groups}
 use Rattle.targets.proofs.Multiplied.{single-found}
-use Rattle.simplification.specs.Rules.{Rules, convertBy}
+use Rattle.tables.specs.Rules.{Rules}
+use Rattle.conversion.specs.Conversion.{convert}
 use Rattle.simplification.proofs.Agreed.{agree-trans, canon-agree}
 use Rattle.simplification.specs.Steps.{Amount, goOn, attempt, grown, converted, byGroups, toward, further, simplify}
 
@@ -61,16 +60,15 @@ module _ (S : Refusal → Type 0) (range : S RANGE) where
     unfolding single
     single-only c = either-only S (ltb 1 (length c)) (search-only c c) fine
 
-    module _ (isBase : ℕ → Bool) (first : ℕ → Exponent) where
-      fitted-only : (r : Factor) (l : List Factor) → Only S (fitted first r l)
-      unfolding fitted summed share
-      fitted-only r l = only-map _ (sum-only S range _ (λ f. only-bind _ _ (ranged-only S range _) λ p _. ranged-only S range _) nought l)
+  fitted-only : (first : ℕ → Exponent) (r : Factor) (l : List Factor) → Only S (fitted first r l)
+  unfolding fitted summed share
+  fitted-only first r l = only-map _ (sum-only S range _ (λ f. only-bind _ _ (ranged-only S range _) λ p _. ranged-only S range _) nought l)
 
-      -- a group's target
-      pub target-only : (g : List Factor) → Only S (target bs isBase first g)
-      unfolding target
-      target-only [] = fine
-      target-only (f ∷ l) = only-bind _ _ (base-only S range bs (f ∷ l)) λ x _. either-only S (allNought x) fine (fitted-only _ (f ∷ l))
+  -- a group's target
+  pub target-only : {A : Type 0} (R : Rules A) (g : List Factor) → Only S (target R g)
+  unfolding target
+  target-only R [] = fine
+  target-only R (f ∷ l) = only-bind _ _ (base-only S range (R .bases) (f ∷ l)) λ x _. either-only S (allNought x) fine (fitted-only (R .lead) _ (f ∷ l))
 
 -- ---- UNITS
 abbrev pub NotUnits : Refusal → Type 0
@@ -92,10 +90,10 @@ attempt-only S (refused r) m next k h = go (eqb (number r) (number UNITS)) refl
     go true e = h
     go false e = only (only-out k refl (λ q. true≢false (sym (ap (λ s. eqb (number s) (number UNITS)) q) ∙ e)))
 
-module _ (R : Rules) (O : Total (R .order)) where
+module _ (R : Rules Float) (O : Total (R .order)) where
   -- the target of the group g has its base exponents
   abbrev pub Keeps : List Factor → Type 0
-  Keeps g = Holds (λ m. Agree value (R .bases) g m) (target (R .bases) (R .isBase) (R .lead) g)
+  Keeps g = Holds (λ m. Agree value (R .bases) g m) (target R g)
 
   -- those of the groups of the canonical form of l do
   abbrev pub GroupsKeep : List Factor → Type 0
@@ -104,16 +102,16 @@ module _ (R : Rules) (O : Total (R .order)) where
   -- ---- refused by RANGE and FRACTION alone
   module _ (S : Refusal → Type 0) (range : S RANGE) (fraction : S FRACTION) where
     -- a conversion between lists that agree
-    pub agreeing-only : (l m : List Factor) (v : Float) → Agree value (R .bases) l m → Only S (convertBy R l m v)
-    agreeing-only l m v a = convert-only (R .order) (R .bases) value O binary64 (R .size) S range fraction l m v (λ n. absurd (n a))
+    pub agreeing-only : (l m : List Factor) (v : Float) → Agree value (R .bases) l m → Only S (convert R l m v)
+    agreeing-only l m v a = convert-only R value O S range fraction l m v (λ n. absurd (n a))
 
     -- any other, or by UNITS
-    tried-only : (l m : List Factor) (v : Float) → Only (λ r. NotUnits r → S r) (convertBy R l m v)
-    tried-only l m v = convert-only (R .order) (R .bases) value O binary64 (R .size) (λ r. NotUnits r → S r) (λ _. range) (λ _. fraction) l m v (λ _ n. absurd (n refl))
+    tried-only : (l m : List Factor) (v : Float) → Only (λ r. NotUnits r → S r) (convert R l m v)
+    tried-only l m v = convert-only R value O (λ r. NotUnits r → S r) (λ _. range) (λ _. fraction) l m v (λ _ n. absurd (n refl))
 
     grown-only : (s : Float) (u g : List Factor) → Keeps g → Only S (grown R s u g)
     unfolding grown
-    grown-only s u g k = only-bind _ _ (target-only S range (R .bases) (R .isBase) (R .lead) g) λ m e. only-map _ (agreeing-only g m one (take-out k e))
+    grown-only s u g k = only-bind _ _ (target-only S range R g) λ m e. only-map _ (agreeing-only g m one (take-out k e))
 
     converted-only : (s : Float) (u : List Factor) (gs : List (List Factor)) → All Keeps gs → Only S (converted R s u gs)
     unfolding converted
@@ -141,11 +139,11 @@ module _ (R : Rules) (O : Total (R .order)) where
     simplify-only v l k = attempt-only S _ [] (further R v l) (tried-only l [] v) (further-only v l k)
 
   -- the conversion of a group to its target is never refused by UNITS
-  pub group-converts : (g : List Factor) → Keeps g → (v : Float) → Holds (λ m. convertBy R g m v ≡ refused UNITS → ⊥) (target (R .bases) (R .isBase) (R .lead) g)
+  pub group-converts : (g : List Factor) → Keeps g → (v : Float) → Holds (λ m. convert R g m v ≡ refused UNITS → ⊥) (target R g)
   group-converts g k v = holds-imp k λ m a. never (agreeing-only NotUnits range-not-units fraction-not-units g m v a)
 
   -- nor is that of the second step: its factor has the base exponents of the list, so that the first one that fits ends the search
-  pub second-converts : (l c : List Factor) → canon (R .order) l ≡ given c → (f : Factor) (m : List Factor) → single (R .bases) c ≡ given (f ∷ m) → (v : Float) → convertBy R l (f ∷ m) v ≡ refused UNITS → ⊥
+  pub second-converts : (l c : List Factor) → canon (R .order) l ≡ given c → (f : Factor) (m : List Factor) → single (R .bases) c ≡ given (f ∷ m) → (v : Float) → convert R l (f ∷ m) v ≡ refused UNITS → ⊥
   second-converts l c e f m s v =
       never (agreeing-only NotUnits range-not-units fraction-not-units l (f ∷ m) v
-      (agree-trans value (R .bases) l c (f ∷ m) (take-out (canon-agree value (R .order) O (R .bases) l) e) (take-out (single-found (R .bases) c) s)))
+      (agree-trans value (R .bases) l c (f ∷ m) (take-out (canon-agree value R O l) e) (take-out (single-found (R .bases) c) s)))

@@ -11,7 +11,7 @@ use borrow.Author.Tests.{ltb-true, ltb-false, le-ltb, not-false}
 use Rattle.exponents.specs.Outcome.{Outcome, given, refused, SHAPE, UNKNOWN, UNITS, number, unless}
 use Rattle.exponents.specs.Fractions.{faulty}
 use Rattle.exponents.specs.declared.Exponent.{Exponent}
-use Rattle.exponents.proofs.Holds.{Holds, moot, held, holds-by, holds-any, holds-imp, holds-both, holds-unless, holds-map, holds-bind, take-out}
+use Rattle.exponents.proofs.Holds.{holds-all, Holds, moot, held, holds-by, holds-imp, holds-both, holds-unless, holds-map, holds-bind, take-out}
 use Rattle.exponents.proofs.InRange.{or-left, or-right}
 use Rattle.exponents.proofs.Sound.{add-sound}
 use Rattle.floats.specs.Power.{one}
@@ -19,15 +19,17 @@ use Rattle.units.specs.declared.Factor.{Factor}
 use Rattle.units.specs.declared.Factors.{Factors}
 use Rattle.units.specs.Lists.{listOf, pack, factorFault, some, unknown, checked}
 use Rattle.units.proofs.Laws.{list-pack, len-pack}
-use Rattle.tables.proofs.Each.{all-imp}
-use Rattle.tables.proofs.Places.{All}
-use Rattle.canonical.specs.Order.{atom, of}
+use Rattle.exponents.proofs.Each.{all-imp}
+use Rattle.exponents.specs.Words.{All}
+use Rattle.tables.specs.Order.{atom, of}
 use Rattle.canonical.specs.Canonical.{canon}
-use Rattle.canonical.proofs.Keeping.{pick-is, all-append, each-faultless, none-faulty, Kept, kept-with, canon-keeps}
+use Rattle.exponents.proofs.Words.{pick-is}
+use Rattle.canonical.proofs.Keeping.{all-append, each-faultless, none-faulty, Kept, kept-with, canon-keeps}
 use Rattle.canonical.proofs.Judged.{canon-short}
 use Rattle.targets.specs.Groups.{groups}
 use Rattle.targets.proofs.Within.{Within, none-within, groups-parted, single-within, target-within}
-use Rattle.simplification.specs.Rules.{Rules, convertBy}
+use Rattle.tables.specs.Rules.{Rules}
+use Rattle.conversion.specs.Conversion.{convert}
 use Rattle.simplification.specs.Steps.{Amount, goOn, attempt, grown, converted, byGroups, toward, further, simplify}
 
 -- ---- from step to step: what holds of each answer of a conversion, and of what follows after UNITS
@@ -36,13 +38,13 @@ unfolding attempt goOn
 attempt-holds P (given x) m next (held h) k = held h
 attempt-holds P (refused r) m next h k = pick-is (Holds P) (eqb (number r) (number UNITS)) k moot
 
-pub toward-holds : (P : Amount → Type 0) (R : Rules) (v : Float) (l m : List Factor) (next : Outcome Amount) → Holds (λ x. P (x, m)) (convertBy R l m v) → Holds P next → Holds P (toward R v l m next)
+pub toward-holds : (P : Amount → Type 0) (R : Rules Float) (v : Float) (l m : List Factor) (next : Outcome Amount) → Holds (λ x. P (x, m)) (convert R l m v) → Holds P next → Holds P (toward R v l m next)
 unfolding toward
 toward-holds P R v l [] next h k = k
-toward-holds P R v l (f ∷ m) next h k = attempt-holds P (convertBy R l (f ∷ m) v) (f ∷ m) next h k
+toward-holds P R v l (f ∷ m) next h k = attempt-holds P (convert R l (f ∷ m) v) (f ∷ m) next h k
 
 -- ---- the three steps, where Q holds of a factor whatever exponent within the rule it has
-module _ (Q : Factor → Type 0) (stays : (f : Factor) (e : Exponent) → Q f → faulty e ≡ false → Q (of (atom f) e)) (R : Rules) where
+module _ (Q : Factor → Type 0) (stays : (f : Factor) (e : Exponent) → Q f → faulty e ≡ false → Q (of (atom f) e)) (R : Rules Float) where
   abbrev Lists : ℕ → Amount → Type 0
   Lists n a = Within Q n (a .1)
 
@@ -54,7 +56,7 @@ module _ (Q : Factor → Type 0) (stays : (f : Factor) (e : Exponent) → Q f �
   pub grown-within : (n : ℕ) (s : Float) (u g : List Factor) → Within Q n u → All Q g → Holds (Lists (suc n)) (grown R s u g)
   unfolding grown
   grown-within n s u g h k =
-      holds-bind _ (target-within Q stays (R .bases) (R .isBase) (R .lead) g k) λ m p. holds-map _ (holds-any (convertBy R g m one)) λ x _.
+      holds-bind _ (target-within Q stays R g k) λ m p. holds-all _ (convert R g m one) λ x.
       (omega (arith, length-append u m, h .0, p .0), all-append Q u m (h .1) (p .1))
 
   converted-within : (n m : ℕ) (s : Float) (u : List Factor) (gs : List (List Factor)) → Within Q m u → m + length gs ≤ n → All (All Q) gs → Holds (Lists n) (converted R s u gs)
@@ -73,24 +75,18 @@ module _ (Q : Factor → Type 0) (stays : (f : Factor) (e : Exponent) → Q f �
   further-within n v l h =
       holds-bind _ (canon-within n l h) λ c k.
       holds-bind _ (single-within Q stays (R .bases) c (k .1)) λ m p.
-      toward-holds (Lists n) R v l m (byGroups R v c) (holds-by _ (convertBy R l m v) λ x _. (omega (arith, k .0, p .0), p .1)) (by-groups-within n v c k)
+      toward-holds (Lists n) R v l m (byGroups R v c) (holds-by _ (convert R l m v) λ x _. (omega (arith, k .0, p .0), p .1)) (by-groups-within n v c k)
 
   pub simplify-within : (n : ℕ) (v : Float) (l : List Factor) → Within Q n l → Holds (Lists n) (simplify R v l)
   unfolding simplify
-  simplify-within n v l h = attempt-holds (Lists n) (convertBy R l [] v) [] (further R v l) (holds-by _ (convertBy R l [] v) λ x _. none-within Q n) (further-within n v l h)
+  simplify-within n v l h = attempt-holds (Lists n) (convert R l [] v) [] (further R v l) (holds-by _ (convert R l [] v) λ x _. none-within Q n) (further-within n v l h)
 
--- ---- the answer's list is no longer than the given one
+-- what holds of all holds of each
 pub every : {A : Type 0} {P : A → Type 0} (l : List A) → ((a : A) → P a) → All P l
 every [] f = tt
 every (a ∷ l) f = (f a, every l f)
 
-pub all-any : (l : List Factor) → All (λ _. Unit {0}) l
-all-any l = every l (λ f. tt)
-
-pub simplify-no-longer : (R : Rules) (v : Float) (l : List Factor) → Holds (λ a. length (a .1) ≤ length l) (simplify R v l)
-simplify-no-longer R v l = holds-imp (simplify-within (λ _. Unit {0}) (λ f e p s. tt) R (length l) v l (omega arith, all-any l)) λ a h. h .0
-
--- ---- and passes where that passes
+-- ---- the answer's list passes where the given one passes
 module _ (rows : ℕ) where
   -- a factor that passes
   abbrev pub Passes : Factor → Type 0
@@ -123,5 +119,5 @@ module _ (rows : ℕ) where
   passed-checked l h =
       rw (list-pack l, len-pack l, le-ltb 16 (length l) (h .0), none-faulty factorFault l (all-imp l (λ f p. p .0) (h .1)), none-faulty (unknown rows) l (all-imp l (λ f p. p .1) (h .1)))
 
-pub simplify-checked : (R : Rules) (rows : ℕ) (u : Factors) (fs : List Factor) → checked rows u ≡ given fs → (v : Float) → Holds (λ a. checked rows (pack (a .1)) ≡ given (a .1)) (simplify R v fs)
+pub simplify-checked : (R : Rules Float) (rows : ℕ) (u : Factors) (fs : List Factor) → checked rows u ≡ given fs → (v : Float) → Holds (λ a. checked rows (pack (a .1)) ≡ given (a .1)) (simplify R v fs)
 simplify-checked R rows u fs e v = holds-imp (simplify-within (Passes rows) (passes-still rows) R 16 v fs (take-out (checked-passed rows u) e)) λ a. passed-checked rows (a .1)

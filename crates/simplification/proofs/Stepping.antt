@@ -1,31 +1,24 @@
 -- Simplification's first two steps as the code takes them: how each ends, and how it goes on after UNITS.
 use mathlib.Core.Path.{_≡_, refl, sym, ap, _∙_}
-use mathlib.Core.Bool.{false}
 use mathlib.Core.List.{List, [], _∷_}
-use Prim.Native.Nat.{ℕ, _≤_, _<_}
+use Prim.Native.Nat.{ℕ, _<_}
 use native.Mathlib.Omega.{arith}
 use lib.Ieee.{Float}
 use lib.ListN.{length, drop-of-length-le}
 use borrow.Author.Tests.{eq-eqb, ne-eqb, lt-ltb, le-ltb}
 use Rattle.exponents.specs.Outcome.{Refusal, Outcome, given, refused, number, bind}
-use Rattle.exponents.proofs.Holds.{Holds, take-out, bind-given}
+use Rattle.exponents.proofs.Holds.{bind-given}
 use Rattle.exponents.proofs.Numbers.{Refuses}
 use Rattle.units.specs.declared.Factor.{Factor}
-use Rattle.units.specs.Lists.{some, factorFault}
 use Rattle.tables.specs.Lists.{base}
-use Rattle.tables.specs.Rows.{pick}
-use Rattle.tables.specs.Items.{View, packItems}
+use Rattle.exponents.specs.Words.{pick}
 use Rattle.canonical.specs.Canonical.{canon}
-use Rattle.canonical.specs.Form.{formOf}
-use Rattle.canonical.specs.declared.form.Form.{Form}
-use Rattle.canonical.proofs.Judged.{formed}
-use Rattle.canonical.proofs.Keeping.{none-faulty, Kept}
 use Rattle.reduction.specs.Multiple.{isMultiple}
 use Rattle.lists.proofs.Ends.{bind-refuses}
 use Rattle.quantities.proofs.Converting.{refuses-as}
 use Rattle.targets.specs.Single.{search, single}
-use Rattle.targets.proofs.Within.{Within}
-use Rattle.simplification.specs.Rules.{Rules, convertBy}
+use Rattle.tables.specs.Rules.{Rules}
+use Rattle.conversion.specs.Conversion.{convert}
 use Rattle.simplification.specs.Steps as spec
 use Rattle.simplification.specs.Steps.{Amount, goOn, attempt}
 
@@ -48,32 +41,18 @@ module _ {o : Outcome Float} (m : List Factor) (next : Outcome Amount) where
   unfolding attempt
   attempt-refused r e = ap (λ o. attempt o m next) e
 
--- ---- at most one factor, which keeps its rule: what a target is, as code holds it
-pub record Lone (v : View) (o : Outcome (List Factor)) (x : Form) : Type 0 where
-  pub answer : List Factor
-  pub is : o ≡ given answer
-  pub list : x .list ≡ packItems v answer
-  pub short : length answer ≤ 1
-  pub kept : some factorFault answer ≡ false
-
-pub lone : (v : View) (o : Outcome (List Factor)) (x : Form) → Holds (Within Kept 1) o → x ≡ formOf v o → x .refusal ≡ 0 → Lone v o x
-lone v o x h e z =
-    let f = formed v o x e z in
-    let w = take-out h (f .is) in
-    record { answer = f .answer; is = f .is; list = f .list; short = w .0; kept = none-faulty factorFault (f .answer) (w .1) }
-
-module _ (R : Rules) where
+module _ (R : Rules Float) where
   -- ---- second step
   module _ (x : Float) (l m : List Factor) (next : Outcome Amount) where
     pub toward-nothing : length m ≡ 0 → spec.toward R x l m next ≡ next
     unfolding spec.toward
     toward-nothing e = ap (λ m. spec.toward R x l m next) (drop-of-length-le m {i = 0} (omega arith))
 
-    pub toward-one : (length m ≡ 0 → ⊥) → spec.toward R x l m next ≡ attempt (convertBy R l m x) m next
+    pub toward-one : (length m ≡ 0 → ⊥) → spec.toward R x l m next ≡ attempt (convert R l m x) m next
     unfolding spec.toward
     toward-one h = go m h
       where
-        go : (m : List Factor) → (length m ≡ 0 → ⊥) → spec.toward R x l m next ≡ attempt (convertBy R l m x) m next
+        go : (m : List Factor) → (length m ≡ 0 → ⊥) → spec.toward R x l m next ≡ attempt (convert R l m x) m next
         go [] h = absurd (h refl)
         go (f ∷ m) h = refl
 

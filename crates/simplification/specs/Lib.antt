@@ -1,3 +1,3 @@
-pub mod Rules
 pub mod Steps
 pub mod Calls
+pub mod Held

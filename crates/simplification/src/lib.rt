@@ -4,7 +4,7 @@ ghost use mathlib.Core.Path.{_≡_};
 ghost use mathlib.Core.List.{[]};
 ghost use Rattle.units.specs.declared.Rows.{Rows as Rowsᵛ};
 ghost use Rattle.units.specs.Lists.{pack};
-ghost use Rattle.lists.specs.Opening.{Tells, baseRows, opening, openedOf};
+ghost use Rattle.lists.specs.Held.{Opens};
 ghost use Rattle.values.specs.Quantities.{answeredOf};
 ghost use Rattle.simplification.specs.Calls as spec;
 use lists::opening::Opened;
@@ -17,7 +17,7 @@ pub mod steps; // the three steps of a value on a resolved list
 
 // Without the mark: unchanged. Over the opened table and list; the second list is empty.
 pub fn full_simplify_over(o: Opened, q: Quantity, nums: &[i32], dens: &[u32]) -> Answer
-    ensures { λ r. ⌜ ((rows : Rowsᵛ) → o ≡ openedOf (baseRows rows) (opening rows (q .unit) (pack [])) → Tells rows (now (nums .entry)) (now (dens .entry)) → r ≡ answeredOf (spec.fullSimplify rows q)) ⌝ }
+    ensures { λ r. ⌜ ((rows : Rowsᵛ) → Opens rows (q .unit) (pack []) o (now (nums .entry)) (now (dens .entry)) → r ≡ answeredOf (spec.fullSimplify rows q)) ⌝ }
 {
     if o.refusal != 0 {
         return answers::refused(o.refusal);

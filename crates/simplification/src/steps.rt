@@ -1,19 +1,14 @@
 // The three steps of simplification on a resolved list (01, "Simplification"). Each is handed the refusal of the step before: only UNITS lets it go on.
 ghost use mathlib.Core.Path.{_≡_};
-ghost use mathlib.Core.Bool.{false};
 ghost use mathlib.Core.List.{List, []};
 ghost use Prim.Native.Nat.{_+_, _≤_, _<_};
-ghost use lib.ListN.{length, drop};
-ghost use Rattle.exponents.specs.Outcome.{Refusal, number, map};
+ghost use Rattle.exponents.specs.Outcome.{Refusal, number};
 ghost use Rattle.units.specs.declared.Factor.{Factor as Factorᵛ};
-ghost use Rattle.units.specs.Lists.{some, factorFault};
 ghost use Rattle.floats.specs.Power.{one};
-ghost use Rattle.tables.specs.Items.{View, packItems, packed};
-ghost use Rattle.targets.specs.Groups.{leading};
-ghost use Rattle.values.specs.Quantities.{answeredOf};
-ghost use Rattle.simplification.specs.Rules.{rulesBy, Lends};
+ghost use Rattle.tables.specs.Held.{View, packed, rulesBy, Lends, Resolved};
 ghost use Rattle.simplification.specs.Steps as spec;
-ghost use Rattle.simplification.specs.Steps.{quantityOf, goOn, progressOf};
+ghost use Rattle.simplification.specs.Steps.{goOn};
+ghost use Rattle.simplification.specs.Held.{Grows, handed, withGroup};
 use canonical::form;
 use conversion::convert;
 use conversion::convert::Converted;
@@ -51,7 +46,7 @@ fn stopped(next: usize, refusal: u32) -> Progress
 // One group more, the one that starts at `next`: its target, then its conversion.
 fn with_group(p: Progress, c: Items, n: usize, nums: &[i32], dens: &[u32]) -> Progress
     requires { ⌜ p .next < 16 ⌝ }
-    ensures { λ r. ⌜ ((p .next < r .next) × (r .next ≤ 32)) × ((v : View) → Lends v (now (nums .entry)) (now (dens .entry)) → (us cs gs : List Factorᵛ) → p .unit ≡ packItems v us → c ≡ packItems v cs → gs ≡ leading (rulesBy v n .alike) (drop (p .next) cs) → length us ≤ p .next → length cs ≤ 16 → p .next < length cs → n ≤ 16 → some factorFault cs ≡ false → r ≡ progressOf v (p .next + length gs) (spec.grown (rulesBy v n) (p .factor) us gs)) ⌝ }
+    ensures { λ r. ⌜ ((p .next < r .next) × (r .next ≤ 32)) × ((v : View) (us cs : List Factorᵛ) → Lends v n (now (nums .entry)) (now (dens .entry)) → Grows v p c us cs → r ≡ withGroup v n p us cs) ⌝ }
 {
     let i = p.next;
     let g = groups::group_at(c, i);
@@ -77,7 +72,7 @@ fn with_group(p: Progress, c: Items, n: usize, nums: &[i32], dens: &[u32]) -> Pr
 
 // x of the canonical list c, group by group.
 fn by_groups(refusal: u32, x: f64, c: Items, n: usize, nums: &[i32], dens: &[u32]) -> Answer
-    ensures { λ r. ⌜ ((why : Refusal) (v : View) → Lends v (now (nums .entry)) (now (dens .entry)) → (cs : List Factorᵛ) → refusal ≡ number why → c ≡ packItems v cs → length cs ≤ 16 → n ≤ 16 → some factorFault cs ≡ false → r ≡ answeredOf (map quantityOf (goOn why (spec.byGroups (rulesBy v n) x cs)))) ⌝ }
+    ensures { λ r. ⌜ ((why : Refusal) (v : View) (cs : List Factorᵛ) → refusal ≡ number why → Lends v n (now (nums .entry)) (now (dens .entry)) → Resolved v c cs → r ≡ handed (goOn why (spec.byGroups (rulesBy v n) x cs))) ⌝ }
 {
     if refusal != UNITS {
         return answers::refused(refusal);
@@ -104,7 +99,7 @@ fn by_groups(refusal: u32, x: f64, c: Items, n: usize, nums: &[i32], dens: &[u32
 
 // x of the list l, whose canonical form is c, to the one factor of t; to the groups of c where t is empty.
 fn toward(x: f64, l: Items, t: Items, c: Items, n: usize, nums: &[i32], dens: &[u32]) -> Answer
-    ensures { λ r. ⌜ ((v : View) → Lends v (now (nums .entry)) (now (dens .entry)) → (fs ms cs : List Factorᵛ) → l ≡ packItems v fs → t ≡ packItems v ms → c ≡ packItems v cs → length fs ≤ 16 → length ms ≤ 16 → length cs ≤ 16 → n ≤ 16 → some factorFault fs ≡ false → some factorFault ms ≡ false → some factorFault cs ≡ false → r ≡ answeredOf (map quantityOf (spec.toward (rulesBy v n) x fs ms (spec.byGroups (rulesBy v n) x cs)))) ⌝ }
+    ensures { λ r. ⌜ ((v : View) (fs ms cs : List Factorᵛ) → Lends v n (now (nums .entry)) (now (dens .entry)) → Resolved v l fs → Resolved v t ms → Resolved v c cs → r ≡ handed (spec.toward (rulesBy v n) x fs ms (spec.byGroups (rulesBy v n) x cs))) ⌝ }
 {
     if t.len == 0 {
         return by_groups(UNITS, x, c, n, nums, dens);
@@ -119,7 +114,7 @@ fn toward(x: f64, l: Items, t: Items, c: Items, n: usize, nums: &[i32], dens: &[
 
 // What follows the conversion to scalar.
 fn further(refusal: u32, x: f64, l: Items, n: usize, nums: &[i32], dens: &[u32]) -> Answer
-    ensures { λ r. ⌜ ((why : Refusal) (v : View) → Lends v (now (nums .entry)) (now (dens .entry)) → (fs : List Factorᵛ) → refusal ≡ number why → l ≡ packItems v fs → length fs ≤ 16 → n ≤ 16 → some factorFault fs ≡ false → r ≡ answeredOf (map quantityOf (goOn why (spec.further (rulesBy v n) x fs)))) ⌝ }
+    ensures { λ r. ⌜ ((why : Refusal) (v : View) (fs : List Factorᵛ) → refusal ≡ number why → Lends v n (now (nums .entry)) (now (dens .entry)) → Resolved v l fs → r ≡ handed (goOn why (spec.further (rulesBy v n) x fs))) ⌝ }
 {
     if refusal != UNITS {
         return answers::refused(refusal);
@@ -149,7 +144,7 @@ fn further(refusal: u32, x: f64, l: Items, n: usize, nums: &[i32], dens: &[u32])
 
 // x of the list l, where the mark permits simplifying and there are n base rows.
 pub fn simplified(x: f64, l: Items, n: usize, nums: &[i32], dens: &[u32]) -> Answer
-    ensures { λ r. ⌜ ((v : View) → Lends v (now (nums .entry)) (now (dens .entry)) → (fs : List Factorᵛ) → l ≡ packItems v fs → length fs ≤ 16 → n ≤ 16 → some factorFault fs ≡ false → r ≡ answeredOf (map quantityOf (spec.simplify (rulesBy v n) x fs))) ⌝ }
+    ensures { λ r. ⌜ ((v : View) (fs : List Factorᵛ) → Lends v n (now (nums .entry)) (now (dens .entry)) → Resolved v l fs → r ≡ handed (spec.simplify (rulesBy v n) x fs)) ⌝ }
 {
     let scalar = tables::no_items();
     let y = convert::convert(x, l, scalar, n, nums, dens);

@@ -16,7 +16,8 @@ use Rattle.exponents.proofs.InRange.{or-left, or-right}
 use Rattle.wire.specs.Bytes.{le, bytesOf}
 use Rattle.wire.proofs.Digits.{length-bytesOf}
 use Rattle.wire.proofs.Stored.{sets-number}
-use Rattle.replies.specs.Replies.{sent, replyOf, left}
+use Rattle.replies.specs.Replies.{sent, left}
+use Rattle.replies.specs.Held.{replyOf}
 use Rattle.replies.specs.declared.Reply.{Reply}
 use Rattle.stream.specs.Stream.{lent, answered, answerBytes, framed, behind, ends, answers, next}
 use Rattle.stream.specs.declared.Frame.{Frame}

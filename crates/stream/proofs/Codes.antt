@@ -8,9 +8,10 @@ use native.Mathlib.Omega.{arith}
 use borrow.Author.Tests.{ltb-true, leb-true, ne-eqb}
 use lib.Dec.{eqb, ltb, leb}
 use lib.ListN.{getD}
+use Rattle.exponents.specs.Words.{pick}
 use Rattle.exponents.specs.Outcome.{SHAPE, number, bind}
-use Rattle.tables.specs.Rows.{pick}
-use Rattle.replies.specs.Replies.{Replied, sent}
+use Rattle.replies.specs.Held.{Replied}
+use Rattle.replies.specs.Replies.{sent}
 use Rattle.replies.specs.declared.Reply.{Reply}
 use Rattle.stream.specs.Calls.{Call, calls, look, callOf, noCall}
 

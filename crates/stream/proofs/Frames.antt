@@ -7,7 +7,7 @@ use native.Mathlib.Omega.{arith}
 use lib.Dec.{eqb, ltb}
 use lib.ListN.{length}
 use borrow.Author.Tests.{ltb-false, lt-ltb, le-ltb, ne-eqb}
-use Rattle.tables.specs.Rows.{pick}
+use Rattle.exponents.specs.Words.{pick}
 use Rattle.wire.specs.Bytes.{le}
 use Rattle.stream.specs.Calls.{callOf}
 use Rattle.stream.specs.Stream.{whole, short, bad, arguments, framed}

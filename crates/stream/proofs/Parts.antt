@@ -7,7 +7,7 @@ use native.Mathlib.Omega.{arith}
 use lib.ListN.{length, take, drop, length-drop, drop-of-length-le}
 use lib.Seq.{take-nil, take-all, drop-drop, getD-drop}
 use Rattle.wire.specs.Bytes.{le}
-use Rattle.replies.specs.Replies.{Replied}
+use Rattle.replies.specs.Held.{Replied}
 use Rattle.replies.specs.declared.Reply.{Reply}
 use Rattle.stream.specs.Calls.{callOf}
 use Rattle.stream.specs.Stream.{part, answerTo}

@@ -2,8 +2,8 @@
 use mathlib.Core.List.{List, [], _∷_}
 use Prim.Native.Nat.{ℕ}
 use lib.Dec.{eqb}
+use Rattle.exponents.specs.Words.{pick}
 use Rattle.exponents.specs.Outcome.{Outcome, refused, SHAPE}
-use Rattle.tables.specs.Rows.{pick}
 use Rattle.requests.specs.Calls as requests
 
 -- the number of a call's arguments, the table among them, and its answer to three byte strings, of which it reads so many

@@ -4,7 +4,7 @@ ghost use mathlib.Core.Path.{_≡_};
 ghost use mathlib.Core.List.{_++_};
 ghost use Prim.Native.Nat.{_+_, _-_, _≤_};
 ghost use lib.ListN.{length, take, drop};
-ghost use Rattle.replies.specs.Replies.{Replied};
+ghost use Rattle.replies.specs.Held.{Replied};
 ghost use Rattle.stream.specs.Calls.{callOf};
 ghost use Rattle.stream.specs.Stream as spec;
 use exponents::refusals::SHAPE;

@@ -3,17 +3,15 @@ use mathlib.Core.Bool.{Bool, true, false}
 use mathlib.Core.List.{List}
 use lib.Ieee.{neg}
 use lib.ListN.{length}
+use Rattle.exponents.specs.Words.{pick}
 use Rattle.exponents.specs.Outcome.{Outcome, given, bind}
 use Rattle.floats.specs.Values.{isZero}
 use Rattle.units.specs.declared.Factor.{Factor}
 use Rattle.units.specs.declared.Quantity.{Quantity}
 use Rattle.units.specs.declared.Rows.{Rows}
 use Rattle.units.specs.Lists.{both}
-use Rattle.tables.specs.Scale.{sizeBy}
-use Rattle.tables.specs.Rows.{pick, scaleAt}
-use Rattle.canonical.specs.Order.{orderIn}
-use Rattle.lists.specs.Opening.{table}
-use Rattle.lists.specs.Calls.{basesIn}
+use Rattle.tables.specs.Rows.{table}
+use Rattle.tables.specs.Rules.{rulesIn}
 use Rattle.values.specs.Quantities.{made, fresh}
 use Rattle.sums.specs.Sums.{nonzeroSum}
 
@@ -24,7 +22,7 @@ module _ (t : Rows) where
       bind (table t) (λ ks. bind (both (length ks) (q .unit) (p .unit)) (λ l.
       pick (isZero (q .value)) (given (lead (l .1)))
       (pick (isZero (p .value)) (given (made (q .mark) (q .value) (l .0)))
-      (nonzeroSum (orderIn ks) (basesIn t ks) (sizeBy (scaleAt ks)) minus (q .value) (p .value) (l .0) (l .1)))))
+      (nonzeroSum (rulesIn t ks) minus (q .value) (p .value) (l .0) (l .1)))))
 
   -- the other, mark kept
   unfoldable pub add : Quantity → Quantity → Outcome Quantity

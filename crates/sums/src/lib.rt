@@ -1,17 +1,11 @@
 // Sum and difference of quantities (01, "Conversion, sums, comparison"): zeros before units are looked at; else both in the unit of the smaller scale.
 // Public: `add`, `subtract`, and their halves `.._over` for a table and lists that are opened already. None asks anything of its caller.
 ghost use mathlib.Core.Path.{_≡_};
-ghost use mathlib.Core.Bool.{false};
 ghost use mathlib.Core.List.{List};
-ghost use Prim.Native.Nat.{_≤_};
-ghost use lib.ListN.{length};
 ghost use Rattle.units.specs.declared.Factor.{Factor as Factorᵛ};
 ghost use Rattle.units.specs.declared.Rows.{Rows as Rowsᵛ};
-ghost use Rattle.units.specs.Lists.{some, factorFault};
-ghost use Rattle.tables.specs.Scale.{sizeBy};
-ghost use Rattle.tables.specs.Items.{View, Lent, viewBases, packItems};
-ghost use Rattle.canonical.specs.Order.{byPlace};
-ghost use Rattle.lists.specs.Opening.{Tells, baseRows, opening, openedOf};
+ghost use Rattle.tables.specs.Held.{View, Resolved, Lends, rulesBy};
+ghost use Rattle.lists.specs.Held.{Opens};
 ghost use Rattle.values.specs.Quantities.{answeredOf};
 ghost use Rattle.sums.specs.Sums as sums;
 ghost use Rattle.sums.specs.Calls as spec;
@@ -44,7 +38,7 @@ fn together(
     nums: &[i32],
     dens: &[u32],
 ) -> Answer
-    ensures { λ r. ⌜ ((v : View) → Lent v (now (nums .entry)) (now (dens .entry)) → (fs gs hs : List Factorᵛ) → a ≡ packItems v fs → b ≡ packItems v gs → u ≡ packItems v hs → length fs ≤ 16 → length gs ≤ 16 → length hs ≤ 16 → n ≤ 16 → some factorFault fs ≡ false → some factorFault gs ≡ false → some factorFault hs ≡ false → r ≡ answeredOf (sums.together (byPlace v) (viewBases v n) (sizeBy (v .scale)) minus x y fs gs hs)) ⌝ }
+    ensures { λ r. ⌜ ((v : View) (fs gs hs : List Factorᵛ) → Lends v n (now (nums .entry)) (now (dens .entry)) → Resolved v a fs → Resolved v b gs → Resolved v u hs → r ≡ answeredOf (sums.together (rulesBy v n) minus x y fs gs hs)) ⌝ }
 {
     let c = conversion::convert::convert(x, a, u, n, nums, dens);
     let Converted::Value(p) = c else {
@@ -69,7 +63,7 @@ fn nonzero_sum(
     nums: &[i32],
     dens: &[u32],
 ) -> Answer
-    ensures { λ r. ⌜ ((v : View) → Lent v (now (nums .entry)) (now (dens .entry)) → (fs gs : List Factorᵛ) → a ≡ packItems v fs → b ≡ packItems v gs → length fs ≤ 16 → length gs ≤ 16 → n ≤ 16 → some factorFault fs ≡ false → some factorFault gs ≡ false → r ≡ answeredOf (sums.nonzeroSum (byPlace v) (viewBases v n) (sizeBy (v .scale)) minus x y fs gs)) ⌝ }
+    ensures { λ r. ⌜ ((v : View) (fs gs : List Factorᵛ) → Lends v n (now (nums .entry)) (now (dens .entry)) → Resolved v a fs → Resolved v b gs → r ≡ answeredOf (sums.nonzeroSum (rulesBy v n) minus x y fs gs)) ⌝ }
 {
     let e = canonical::equality::equal(a, b);
     match e {
@@ -91,7 +85,7 @@ fn nonzero_sum(
 
 // Over the opened table and lists.
 pub fn add_over(o: Opened, q: Quantity, p: Quantity, nums: &[i32], dens: &[u32]) -> Answer
-    ensures { λ r. ⌜ ((rows : Rowsᵛ) → o ≡ openedOf (baseRows rows) (opening rows (q .unit) (p .unit)) → Tells rows (now (nums .entry)) (now (dens .entry)) → r ≡ answeredOf (spec.add rows q p)) ⌝ }
+    ensures { λ r. ⌜ ((rows : Rowsᵛ) → Opens rows (q .unit) (p .unit) o (now (nums .entry)) (now (dens .entry)) → r ≡ answeredOf (spec.add rows q p)) ⌝ }
 {
     if o.refusal != 0 {
         return answers::refused(o.refusal);
@@ -123,7 +117,7 @@ pub fn add(rows: Rows, q: Quantity, p: Quantity) -> Answer
 
 // Zero minus a quantity is that negated, with a fresh mark. Over the opened table and lists.
 pub fn subtract_over(o: Opened, q: Quantity, p: Quantity, nums: &[i32], dens: &[u32]) -> Answer
-    ensures { λ r. ⌜ ((rows : Rowsᵛ) → o ≡ openedOf (baseRows rows) (opening rows (q .unit) (p .unit)) → Tells rows (now (nums .entry)) (now (dens .entry)) → r ≡ answeredOf (spec.subtract rows q p)) ⌝ }
+    ensures { λ r. ⌜ ((rows : Rowsᵛ) → Opens rows (q .unit) (p .unit) o (now (nums .entry)) (now (dens .entry)) → r ≡ answeredOf (spec.subtract rows q p)) ⌝ }
 {
     if o.refusal != 0 {
         return answers::refused(o.refusal);

@@ -18,8 +18,9 @@ use Rattle.units.specs.declared.Rows.{Rows}
 use Rattle.tables.specs.declared.Slot.{Slot}
 use Rattle.tables.specs.declared.Slots.{Slots}
 use Rattle.tables.specs.declared.Admitted.{Admitted}
-use Rattle.tables.specs.Rows.{pick, Facts, slots, isBase, count, counted, rowFacts, Admission, admitted, stopped, admitOn, admitFrom, rowsOf, admit, packSlots}
-use Rattle.tables.specs.Pages.{Blank, Paged, Pages, RowIn, admittedOf}
+use Rattle.exponents.specs.Words.{pick}
+use Rattle.tables.specs.Rows.{Facts, slots, isBase, count, rowFacts, Admission, admitted, stopped, admitOn, admitFrom, rowsOf, admit}
+use Rattle.tables.specs.Held.{counted, packSlots, Blank, Paged, Pages, RowIn, admittedOf}
 use Rattle.tables.proofs.Filled as filled
 use Rattle.tables.proofs.Entering.{few}
 use Rattle.tables.proofs.Storing.{paged-none}

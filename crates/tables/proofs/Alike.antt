@@ -8,16 +8,16 @@ use Rattle.exponents.specs.Fractions.{mul}
 use Rattle.exponents.proofs.Exact.{Low}
 use Rattle.exponents.proofs.Holds.{take-out}
 use Rattle.units.specs.declared.Row.{Row}
-use Rattle.tables.specs.Key.{entries, first}
+use Rattle.keys.specs.Key.{entries, first}
 use Rattle.tables.specs.Rows.{Facts, nobody, expAt, admitted, admitFrom}
 use Rattle.tables.specs.declared.Slot.{Slot}
-use Rattle.tables.proofs.Each.{all-imp, along-length}
-use Rattle.tables.proofs.Places.{All}
+use Rattle.exponents.proofs.Each.{all-imp, along-length}
+use Rattle.exponents.specs.Words.{All}
 use Rattle.tables.proofs.Filled.{row-known}
 use Rattle.tables.proofs.Sound.{SoundRow, row-sound}
-use Rattle.tables.proofs.Ray.{key-ray}
-use Rattle.tables.proofs.Proportional.{proportional}
-use Rattle.tables.proofs.Entries.{entries-one}
+use Rattle.keys.proofs.Ray.{key-ray}
+use Rattle.keys.proofs.Proportional.{proportional}
+use Rattle.keys.proofs.Entries.{entries-one}
 
 module _ (ss : List Slot) (rs : List Row) (ks : List Facts) (h : admitFrom ss [] rs ≡ admitted ks) (d : Row) where
   -- a row's base exponents keep the rule, one for each base row

@@ -22,8 +22,8 @@ use Rattle.units.specs.Lists.{some, factorFault}
 use Rattle.tables.specs.declared.Slot.{Slot}
 use Rattle.tables.specs.declared.Known.{Known}
 use Rattle.tables.specs.declared.rows.Worked.{Worked}
-use Rattle.tables.specs.Rows.{Facts, defOf, count, kindFault, tableFault, workedOut, rowFacts, knownOf, workedOf}
-use Rattle.tables.specs.Pages.{tops, bottoms, Room, Ranked, Paged, RowIn}
+use Rattle.tables.specs.Rows.{Facts, defOf, count, kindFault, tableFault, workedOut, rowFacts}
+use Rattle.tables.specs.Held.{knownOf, workedOf, tops, bottoms, Room, Ranked, Paged, RowIn}
 use Rattle.tables.proofs.Filled as filled
 use Rattle.tables.proofs.Sound.{row-sound}
 use Rattle.tables.proofs.Storing.{paged-more, ranks-are}

@@ -10,11 +10,10 @@ use lib.Ieee as ieee
 use lib.ListN.{length, getD, take}
 use lib.Seq.{length-take-le, getD-take}
 use borrow.Author.Tests.{ltb-true, not-false}
-use Rattle.exponents.specs.Outcome.{TABLE, Outcome, given, refused, bind, each}
-use Rattle.exponents.specs.Outcome as outcome
+use Rattle.exponents.specs.Outcome.{TABLE, Outcome, given, refused, bind, each, apply}
 use Rattle.exponents.specs.Fractions.{nought, unit, add?, mul?, sum?}
 use Rattle.exponents.specs.declared.Exponent.{Exponent}
-use Rattle.exponents.proofs.Holds.{Holds, held, take-out, holds-unless, holds-bind, holds-eq}
+use Rattle.exponents.proofs.Holds.{one-answer, Holds, held, take-out, holds-unless, holds-bind, holds-eq}
 use Rattle.exponents.proofs.InRange.{or-left, or-right}
 use Rattle.floats.specs.Power.{one}
 use Rattle.units.specs.declared.Factor.{Factor}
@@ -25,11 +24,12 @@ use Rattle.units.specs.declared.Rows.{Rows}
 use Rattle.units.specs.Prefixes.{factorOf}
 use Rattle.units.specs.Lists.{some, unknown, factorFault}
 use Rattle.tables.specs.Lists.{baseAt, base}
-use Rattle.tables.specs.Key as key
-use Rattle.tables.specs.Scale.{binary64, raisedTo, scaleFrom, sizeBy}
-use Rattle.tables.specs.Rows.{pick, Facts, nobody, expAt, scaleAt, places, bases, defOf, isBase, kindFault, count, tableFault, rowExps, rowScale, workedOut, rowFacts, slots, Admission, admitted, stopped, admitOn, admitFrom, rowsOf, admit}
+use Rattle.keys.specs.Key as key
+use Rattle.tables.specs.Scale.{doubles, raisedTo, scaleFrom, sizeBy}
+use Rattle.exponents.specs.Words.{pick}
+use Rattle.tables.specs.Rows.{Facts, nobody, expAt, scaleAt, places, bases, defOf, isBase, kindFault, count, tableFault, rowExps, rowScale, workedOut, rowFacts, slots, Admission, admitted, stopped, admitOn, admitFrom, rowsOf, admit}
 use Rattle.tables.specs.declared.Slot.{Slot}
-use Rattle.tables.proofs.Each.{each-map}
+use Rattle.exponents.proofs.Each.{each-map}
 
 -- ---- one row, over the rows js before it
 
@@ -108,12 +108,12 @@ module _ (ks : List Facts) (i : ℕ) where
       (λ x j. sum-same (unknown i) _ _ (λ f p. ap (λ k. mul? (f .exponent) (getD (k .exps) j nought)) (row-same f p)) nought l e x)
       ∙ sym (each-map (baseAt l) (expAt ks) (places 0 n))
 
-  scale-same : (s : Float) (l : List Factor) → some (unknown i) l ≡ false → scaleFrom binary64 (sizeBy (scaleAt (take i ks))) s l ≡ scaleFrom binary64 (sizeBy (scaleAt ks)) s l
+  scale-same : (s : Float) (l : List Factor) → some (unknown i) l ≡ false → scaleFrom doubles (sizeBy (scaleAt (take i ks))) s l ≡ scaleFrom doubles (sizeBy (scaleAt ks)) s l
   unfolding scaleFrom some scaleAt
   scale-same s [] e = refl
   scale-same s (f ∷ l) e =
       let p = row-same f (or-left (unknown i f) (some (unknown i) l) e) in
-      λ x. bind (raisedTo binary64 (mul ieee.binary64 (factorOf (f .prefix)) (p x .scale)) (f .exponent)) (λ v. scale-same (mul ieee.binary64 s v) l (or-right (unknown i f) (some (unknown i) l) e) x)
+      λ x. bind (raisedTo doubles (mul ieee.binary64 (factorOf (f .prefix)) (p x .scale)) (f .exponent)) (λ v. scale-same (mul ieee.binary64 s v) l (or-right (unknown i f) (some (unknown i) l) e) x)
 
 -- a definition without a fault names lower rows only
 lower : (js : List Facts) (r : Row) → tableFault js r ≡ false → some (unknown (length js)) (defOf r) ≡ false
@@ -161,9 +161,6 @@ module _ (ss : List Slot) (rs : List Row) (ks : List Facts) (h : admitFrom ss []
     pub base-exps : getD rs i d .kind ≡ Base → getD ks i nobody .exps ≡ map (λ s. pick (eqb (s .row) i) unit nought) ss
     unfolding rowExps
     base-exps e = let p = rw e at (row-known .exps) in one-answer (sym p) ∙ ap (λ n. map (λ (s : Slot). pick (eqb (s .row) n) unit nought) ss) before
-      where
-        one-answer : {x y : List Exponent} → _≡_ {A = Outcome (List Exponent)} (given x) (given y) → x ≡ y
-        one-answer q = cc
 
     -- a derived row's scale is its factor times its definition's, in the whole table too
     pub row-scale : rowScale (getD rs i d .kind) ks (getD rs i d) ≡ given (getD ks i nobody .scale)
@@ -172,4 +169,4 @@ module _ (ss : List Slot) (rs : List Row) (ks : List Facts) (h : admitFrom ss []
       where
         go : (k : Kind) → rowScale k (take i ks) (getD rs i d) ≡ rowScale k ks (getD rs i d)
         go Base = refl
-        go (Derived f) = ap (outcome.map (mul ieee.binary64 f)) (scale-same ks i one (defOf (getD rs i d)) names-lower)
+        go (Derived f) = ap (apply (mul ieee.binary64 f)) (scale-same ks i one (defOf (getD rs i d)) names-lower)

@@ -1,8 +1,3 @@
-pub mod Places
-pub mod Each
-pub mod KeyLaws
-pub mod KeySizes
-pub mod KeyOrder
 pub mod Placing
 pub mod Terms
 pub mod Paging
@@ -16,9 +11,6 @@ pub mod Telling
 pub mod Sound
 pub mod Entering
 pub mod Admitting
-pub mod Ray
-pub mod Proportional
-pub mod Entries
 pub mod Alike
 pub mod Total
-pub mod Examples
+pub mod Resolved

@@ -1,4 +1,4 @@
--- Sixteen places of an array: what they read as, and exponents held in two arrays, numerators and denominators apart.
+-- Exponents held in two arrays, numerators and denominators apart.
 use mathlib.Core.Path.{_≡_, refl, sym, _∙_, ap, ap₂}
 use mathlib.Core.Bool.{Bool}
 use mathlib.Core.List.{List, [], _∷_, _++_, map}
@@ -7,23 +7,14 @@ use native.Mathlib.Numerals.{add-one}
 use native.Mathlib.Omega.{arith}
 use lib.IntN.{ℤ, pos}
 use lib.Ieee.{Float}
-use lib.ListN.{length, take, drop, getD, set, replicate, length-drop, length-append, length-replicate, length-map, List·getD-map}
-use lib.Seq.{sets, ext-getD, length-take-le, getD-take, getD-drop, take-suc, take-suc-set, take-all}
+use lib.ListN.{length, take, drop, getD, set, replicate, length-append, length-replicate, length-map, List·getD-map}
+use lib.Seq.{ext-getD, take-suc, take-suc-set, take-all}
+use Rattle.exponents.proofs.Places.{part-at}
 use Rattle.exponents.specs.Fractions.{nought}
 use Rattle.exponents.specs.declared.Exponent.{Exponent}
-use Rattle.tables.specs.Rows.{Facts, nobody, expAt, packExps}
-use Rattle.tables.specs.Pages.{tops, bottoms, Paged}
-use Rattle.tables.proofs.Places.{rest}
+use Rattle.tables.specs.Rows.{Facts, nobody, expAt}
+use Rattle.tables.specs.Held.{packExps, tops, bottoms, Paged}
 use Rattle.tables.proofs.Terms.{padded}
-
-module _ {A : Type 0} where
-  -- ---- the sixteen from place a on
-  module _ (l : List A) (a : ℕ) where
-    pub part-long : a + 16 ≤ length l → length (take 16 (drop a l)) ≡ 16
-    part-long h = length-take-le 16 (drop a l) (rw (length-drop a l) (omega arith))
-
-    pub part-at : (i : ℕ) (d : A) → i < 16 → getD (take 16 (drop a l)) i d ≡ getD l (a + i) d
-    part-at i d h = getD-take 16 (drop a l) i d h ∙ getD-drop a l i d
 
 -- ---- what f gives of the elements of an array, as of numerators or of denominators
 
@@ -41,12 +32,6 @@ module _ {A B : Type 0} (f : A → B) where
 
   pub read-end : (e : List A) (l : List B) (s : ℕ) → length e ≤ s → length l ≤ s → take s (map f e) ≡ take s l → map f e ≡ l
   read-end e l s h k p = sym (take-all s (map f e) (rw (length-map e f) h)) ∙ p ∙ take-all s l k
-
-  -- written one after the other from e
-  pub put-on : (e : List A) (l : List B) (a s : ℕ) (d : A) → s < length e → sets (set l (a + s) (f (getD e s d))) (a + (s + 1)) (map f (drop (s + 1) e)) ≡ sets l (a + s) (map f (drop s e))
-  put-on e l a s d h =
-      let b : a + (s + 1) ≡ suc (a + s) = omega arith in
-      rw (b, rest e d s h)
 
 -- ---- a row's base exponents, and all that is known of it
 

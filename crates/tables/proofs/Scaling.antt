@@ -18,8 +18,9 @@ use Rattle.units.specs.Prefixes.{factorOf}
 use Rattle.units.specs.declared.Factor.{Factor}
 use Rattle.units.specs.declared.Row.{Row}
 use Rattle.tables.specs.declared.scales.Scaled.the-variants.{Value, Refused}
-use Rattle.tables.specs.Scale.{Numbers, binary64, raise, raisedTo, scaleFrom, scale, sizeBy}
-use Rattle.tables.specs.Rows.{Facts, scaleAt, defOf, scaledOf}
+use Rattle.tables.specs.Scale.{Numbers, doubles, raise, raisedTo, scaleFrom, scale, sizeBy}
+use Rattle.tables.specs.Rows.{Facts, scaleAt, defOf}
+use Rattle.tables.specs.Held.{scaledOf}
 use Rattle.tables.proofs.Terms.{nilFactor, Defined, long-def, def-at}
 
 -- ---- a power, by the exponent's denominator and the base
@@ -66,26 +67,26 @@ scale-refuses (refused r) n e = record { why = r; is = refl; numbered = cc }
 -- ---- the loop over a definition
 module _ (row : Row) (ks : List Facts) (j : ℕ) (acc p t : Float) (g : Defined row) (h : j < row .len)
     (prefix : p ≡ factorOf (getD (row .def) j nilFactor .prefix)) (is : t ≡ scaleAt ks (getD (row .def) j nilFactor .row))
-    (so-far : scaleFrom binary64 (sizeBy (scaleAt ks)) acc (drop j (defOf row)) ≡ scale binary64 (sizeBy (scaleAt ks)) (defOf row)) where
+    (so-far : scaleFrom doubles (sizeBy (scaleAt ks)) acc (drop j (defOf row)) ≡ scale doubles (sizeBy (scaleAt ks)) (defOf row)) where
   -- what the code has raised
   abbrev power : Outcome Float
-  power = raisedTo binary64 (mul ieee.binary64 p t) (getD (row .def) j nilFactor .exponent)
+  power = raisedTo doubles (mul ieee.binary64 p t) (getD (row .def) j nilFactor .exponent)
 
-  there : power ≡ raisedTo binary64 (sizeBy (scaleAt ks) (getD (defOf row) j nilFactor)) (getD (defOf row) j nilFactor .exponent)
+  there : power ≡ raisedTo doubles (sizeBy (scaleAt ks) (getD (defOf row) j nilFactor)) (getD (defOf row) j nilFactor .exponent)
   there =
-      ap₂ (λ (p t : Float). raisedTo binary64 (mul ieee.binary64 p t) (getD (row .def) j nilFactor .exponent)) prefix is
-      ∙ ap (λ (f : Factor). raisedTo binary64 (sizeBy (scaleAt ks) f) (f .exponent)) (sym (def-at g j h nilFactor))
+      ap₂ (λ (p t : Float). raisedTo doubles (mul ieee.binary64 p t) (getD (row .def) j nilFactor .exponent)) prefix is
+      ∙ ap (λ (f : Factor). raisedTo doubles (sizeBy (scaleAt ks) f) (f .exponent)) (sym (def-at g j h nilFactor))
 
-  pub factor-on : (v : Float) → scaledOf power ≡ Value v → scaleFrom binary64 (sizeBy (scaleAt ks)) (mul ieee.binary64 acc v) (drop (j + 1) (defOf row)) ≡ scale binary64 (sizeBy (scaleAt ks)) (defOf row)
-  factor-on v e = sym (scale-on binary64 (sizeBy (scaleAt ks)) (defOf row) acc j nilFactor (rw (long-def g) h) v (sym there ∙ value-given power v e)) ∙ so-far
+  pub factor-on : (v : Float) → scaledOf power ≡ Value v → scaleFrom doubles (sizeBy (scaleAt ks)) (mul ieee.binary64 acc v) (drop (j + 1) (defOf row)) ≡ scale doubles (sizeBy (scaleAt ks)) (defOf row)
+  factor-on v e = sym (scale-on doubles (sizeBy (scaleAt ks)) (defOf row) acc j nilFactor (rw (long-def g) h) v (sym there ∙ value-given power v e)) ∙ so-far
 
-  pub factor-off : (n : ℕ) → scaledOf power ≡ Refused n → Refused n ≡ scaledOf (scale binary64 (sizeBy (scaleAt ks)) (defOf row))
+  pub factor-off : (n : ℕ) → scaledOf power ≡ Refused n → Refused n ≡ scaledOf (scale doubles (sizeBy (scaleAt ks)) (defOf row))
   factor-off n e =
       let r = scale-refuses power n e in
       ap Refused (sym (r .numbered))
-      ∙ sym (ap scaledOf (sym so-far ∙ scale-off binary64 (sizeBy (scaleAt ks)) (defOf row) acc j nilFactor (rw (long-def g) h) (r .why) (sym there ∙ r .is)))
+      ∙ sym (ap scaledOf (sym so-far ∙ scale-off doubles (sizeBy (scaleAt ks)) (defOf row) acc j nilFactor (rw (long-def g) h) (r .why) (sym there ∙ r .is)))
 
 pub factors-end : (row : Row) (ks : List Facts) (j : ℕ) (acc : Float) → Defined row → row .len ≤ j
-    → scaleFrom binary64 (sizeBy (scaleAt ks)) acc (drop j (defOf row)) ≡ scale binary64 (sizeBy (scaleAt ks)) (defOf row)
-    → Value acc ≡ scaledOf (scale binary64 (sizeBy (scaleAt ks)) (defOf row))
-factors-end row ks j acc g h so-far = sym (ap scaledOf (sym so-far ∙ scale-end binary64 (sizeBy (scaleAt ks)) (defOf row) acc j (omega (arith, long-def g))))
+    → scaleFrom doubles (sizeBy (scaleAt ks)) acc (drop j (defOf row)) ≡ scale doubles (sizeBy (scaleAt ks)) (defOf row)
+    → Value acc ≡ scaledOf (scale doubles (sizeBy (scaleAt ks)) (defOf row))
+factors-end row ks j acc g h so-far = sym (ap scaledOf (sym so-far ∙ scale-end doubles (sizeBy (scaleAt ks)) (defOf row) acc j (omega (arith, long-def g))))

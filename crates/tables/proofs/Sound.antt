@@ -19,10 +19,10 @@ use Rattle.units.specs.declared.Kind.{Kind}
 use Rattle.units.specs.declared.Kind.the-variants.{Base, Derived}
 use Rattle.units.specs.declared.Row.{Row}
 use Rattle.tables.specs.Lists.{baseAt, base}
-use Rattle.tables.specs.Rows.{pick, Facts, expAt, places, bases, defOf, rowExps}
+use Rattle.exponents.specs.Words.{pick, All}
+use Rattle.tables.specs.Rows.{Facts, expAt, places, bases, defOf, rowExps}
 use Rattle.tables.specs.declared.Slot.{Slot}
-use Rattle.tables.proofs.Each.{each-holds, along-all, along-length}
-use Rattle.tables.proofs.Places.{All}
+use Rattle.exponents.proofs.Each.{each-holds, along-all, along-length}
 
 pub record Sound (x : Exponent) : Type 0 where
   pub range : InRange x

@@ -13,8 +13,8 @@ use borrow.Author.Tests.{ltb-true, ltb-false}
 use Rattle.exponents.specs.Fractions.{nought}
 use Rattle.exponents.specs.declared.Exponent.{Exponent}
 use Rattle.floats.specs.Power.{one}
-use Rattle.tables.specs.Rows.{Facts, nobody, expAt, scaleAt, packExps}
-use Rattle.tables.specs.Pages.{tops, bottoms, Room, Blank, Ranked, Paged}
+use Rattle.tables.specs.Rows.{Facts, nobody, expAt, scaleAt}
+use Rattle.tables.specs.Held.{packExps, tops, bottoms, Room, Blank, Ranked, Paged}
 use Rattle.tables.proofs.Terms.{padded}
 
 -- ---- a run of stores, read back

@@ -1,7 +1,7 @@
 -- What the arrays of an admitted table tell of any row, whether the table has it or not; and that new arrays tell nothing.
 use mathlib.Core.Path.{_≡_, refl, sym, ap, ap₂, _∙_}
 use mathlib.Core.Bool.{Bool, true, false}
-use mathlib.Core.List.{List, []}
+use mathlib.Core.List.{List}
 use Prim.Native.Nat.{ℕ, zero, suc, _+_, _*_, _≤_, _<_}
 use native.Mathlib.Omega.{arith}
 use lib.Dec.{ltb}
@@ -12,9 +12,8 @@ use borrow.Author.Tests.{ltb-true, ltb-false}
 use Rattle.exponents.specs.Fractions.{nought}
 use Rattle.exponents.specs.declared.Exponent.{Exponent}
 use Rattle.units.specs.declared.Factor.{Factor}
-use Rattle.tables.specs.Rows.{Facts, nobody, expAt, packExps}
-use Rattle.tables.specs.Pages.{told, Blank, Paged}
-use Rattle.tables.specs.Items.{viewAt, viewOf, Lent}
+use Rattle.tables.specs.Rows.{Facts, nobody, expAt}
+use Rattle.tables.specs.Held.{packExps, told, Blank, Paged, viewOf, Lent}
 use Rattle.tables.proofs.Terms.{padded}
 
 abbrev exponent : ℤ → ℕ → Exponent

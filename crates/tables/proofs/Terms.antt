@@ -9,7 +9,8 @@ use lib.ListN.{length, drop, getD, set, replicate, length-map}
 use lib.Seq.{getD-take, length-take-le}
 use borrow.Author.Tests.{ltb-true, not-false}
 use Rattle.exponents.specs.Outcome.{Outcome, given, bind}
-use Rattle.exponents.specs.Fractions.{nought, add?, mul?, sum?, same, faulty, fractionOf}
+use Rattle.exponents.specs.Fractions.{nought, add?, mul?, sum?, same, faulty}
+use Rattle.exponents.specs.Held.{fractionOf}
 use Rattle.exponents.specs.declared.Exponent.{Exponent}
 use Rattle.exponents.specs.declared.Fraction.the-variants.{Exact, Refused}
 use Rattle.exponents.proofs.Holds.{bind-given, bind-refused, take-out, holds-bind, holds-eq}
@@ -29,8 +30,8 @@ use Rattle.units.proofs.Laws.{none-at, stored}
 use Rattle.units.proofs.Sound.{exponent-sound}
 use Rattle.tables.specs.declared.Known.{Known}
 use Rattle.tables.specs.Lists.{baseAt, base}
-use Rattle.tables.specs.Rows.{Facts, expAt, places, bases, defOf, packExps, noExps, expsOf}
-use Rattle.tables.specs.Pages.{Filed}
+use Rattle.tables.specs.Rows.{Facts, expAt, places, bases, defOf}
+use Rattle.tables.specs.Held.{packExps, noExps, expsOf, Filed}
 
 -- ---- one term more
 module _ (acc e d : Exponent) where
@@ -107,10 +108,6 @@ nilKnown = record { exps = []; scale = nan; rank = 0; base = false }
 
 abbrev pub nilRow : Row
 nilRow = record { def = []; len = 0; rank = 0; kind = Base }
-
--- an array that is a field: its length stands at a map of the list
-pub unmapped : {A B : Type 0} (f : A → B) (l : List A) (n : ℕ) → length (map f l) ≡ n → length l ≡ n
-unmapped f l n p = sym (length-map l f) ∙ p
 
 -- ---- the factors of a definition, as they stand in its array
 pub record Defined (row : Row) : Type 0 where

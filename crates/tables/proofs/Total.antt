@@ -7,10 +7,10 @@ use native.Mathlib.Omega.{arith}
 use lib.IntN.{ℤ, pos, negsuc}
 use lib.Dec.{eqb→eq}
 use lib.ListN.{getD}
-use Rattle.tables.specs.Orders.{then, lists, compareZ}
-use Rattle.tables.specs.Key.{entries}
+use Rattle.keys.specs.Orders.{then, lists, compareZ}
+use Rattle.keys.specs.Key.{entries}
 use Rattle.tables.specs.Rows.{Facts, nobody}
-use Rattle.tables.specs.Items.{keyOrder, rowOrder}
+use Rattle.tables.specs.Order.{keyOrder, rowOrder}
 
 abbrev pub swap : Ordering → Ordering
 swap Ordering·lt = Ordering·gt

@@ -11,13 +11,12 @@ use lib.Seq.{take-suc, length-take-le, take-all}
 use lib.Ieee.{Float, mul}
 use lib.Ieee as ieee
 use borrow.Author.Tests.{eq-eqb, ne-eqb}
-use Rattle.exponents.specs.Outcome.{Outcome, given, refused, bind, refusalOf}
-use Rattle.exponents.specs.Outcome as outcome
+use Rattle.exponents.specs.Outcome.{Outcome, given, refused, bind, refusalOf, apply}
 use Rattle.exponents.specs.Fractions.{nought, unit, lcm?}
 use Rattle.exponents.specs.declared.Exponent.{Exponent}
 use Rattle.exponents.proofs.Holds.{bind-given, bind-refused, Holds, take-out}
 use Rattle.exponents.proofs.Numbers.{Answers, answers, refuses, refusal-map}
-use Rattle.exponents.proofs.Summing.{bind-assoc}
+use Rattle.exponents.proofs.Following.{bind-bind}
 use Rattle.floats.specs.Power.{one}
 use Rattle.units.specs.declared.Kind.the-variants.{Base, Derived}
 use Rattle.units.specs.declared.Row.{Row}
@@ -26,12 +25,13 @@ use Rattle.tables.specs.declared.Slots.{Slots}
 use Rattle.tables.specs.declared.rows.Exps.{Exps}
 use Rattle.tables.specs.declared.scales.Scaled.the-variants.{Value, Refused}
 use Rattle.tables.specs.Lists.{base}
-use Rattle.tables.specs.Key.{multiple, key}
-use Rattle.tables.specs.Scale.{binary64, scale, sizeBy}
-use Rattle.tables.specs.Rows.{pick, Facts, bases, defOf, scaleAt, isBase, rowExps, rowScale, workedOut, rowDerived, selfExp, packSlots, noSlot, packExps, knownOf, expsOf, scaledOf, unworked, workedOf}
-use Rattle.tables.proofs.Places.{All}
-use Rattle.tables.proofs.KeyLaws.{Denominator, lcm-one}
-use Rattle.tables.proofs.KeySizes.{multiple-range}
+use Rattle.keys.specs.Key.{multiple, key}
+use Rattle.tables.specs.Scale.{doubles, scale, sizeBy}
+use Rattle.exponents.specs.Words.{pick, All}
+use Rattle.tables.specs.Rows.{Facts, bases, defOf, scaleAt, isBase, rowExps, rowScale, workedOut, selfExp}
+use Rattle.tables.specs.Held.{rowDerived, packSlots, noSlot, packExps, knownOf, expsOf, scaledOf, unworked, workedOf}
+use Rattle.keys.proofs.KeyLaws.{Denominator, lcm-one}
+use Rattle.keys.proofs.KeySizes.{multiple-range}
 use Rattle.tables.proofs.Terms.{push-exps}
 use Rattle.tables.proofs.Scaling.{value-given, scale-refuses}
 
@@ -39,7 +39,7 @@ use Rattle.tables.proofs.Scaling.{value-given, scale-refuses}
 multiple-join : (m : ℕ) (l k : List Exponent) → multiple m (l ++ k) ≡ bind (multiple m l) (λ n. multiple n k)
 unfolding multiple
 multiple-join m [] k = sym (bind-given (λ n. multiple n k) refl)
-multiple-join m (x ∷ l) k = ap (bind (lcm? m (x .den))) (λ i n. multiple-join n l k i) ∙ sym (bind-assoc (lcm? m (x .den)) (λ n. multiple n l) (λ n. multiple n k))
+multiple-join m (x ∷ l) k = ap (bind (lcm? m (x .den))) (λ i n. multiple-join n l k i) ∙ sym (bind-bind (lcm? m (x .den)) (λ n. multiple n l) (λ n. multiple n k))
 
 -- a denominator 1 changes no multiple
 ones : (n : ℕ) (l : List Exponent) → Denominator n → All (λ x. x .den ≡ 1) l → multiple n l ≡ given n
@@ -106,13 +106,13 @@ module _ (n : ℕ) (ks : List Facts) (row : Row) (f : Float) (e : Exps) (is : e 
         given-key = answers (key (given-base .answer)) q key-number k
 
         abbrev scaled : Outcome Float
-        scaled = scale binary64 (sizeBy (scaleAt ks)) (defOf row)
+        scaled = scale doubles (sizeBy (scaleAt ks)) (defOf row)
 
         pub no-scale : (m : ℕ) → scaledOf scaled ≡ Refused m → unworked m ≡ workedOf (rowDerived n ks row f)
         no-scale m s =
             let r = scale-refuses scaled m s in
             ap unworked (sym (r .numbered))
-            ∙ ap workedOf (sym (bind-refused _ (ap (outcome.map (mul ieee.binary64 f)) (r .is))))
+            ∙ ap workedOf (sym (bind-refused _ (ap (apply (mul ieee.binary64 f)) (r .is))))
             ∙ goes-on _ _ _ (given-key .is)
             ∙ goes-on _ _ _ (given-base .is)
 
@@ -120,7 +120,7 @@ module _ (n : ℕ) (ks : List Facts) (row : Row) (f : Float) (e : Exps) (is : e 
         unfolding knownOf
         all-three v s =
             ap (λ (l : List Exponent). record { known = record { exps = l; scale = mul ieee.binary64 f v; rank = row .rank; base = false }; refusal = 0 }) exps-at
-            ∙ ap workedOf (sym (bind-given _ (ap (outcome.map (mul ieee.binary64 f)) (value-given scaled v s))))
+            ∙ ap workedOf (sym (bind-given _ (ap (apply (mul ieee.binary64 f)) (value-given scaled v s))))
             ∙ goes-on _ _ _ (given-key .is)
             ∙ goes-on _ _ _ (given-base .is)
 

@@ -1,7 +1,6 @@
 pub mod Lists
-pub mod Orders
-pub mod Key
 pub mod Scale
 pub mod Rows
-pub mod Items
-pub mod Pages
+pub mod Order
+pub mod Rules
+pub mod Held

@@ -1,14 +1,13 @@
 -- Admission of rows (01, "Records and sizes", "The refusals"): in row order, for each TABLE, SHAPE, RANGE, FRACTION; its base exponents, key and scale are worked out.
 use mathlib.Core.Bool.{Bool, true, false, not, _||_}
 use mathlib.Core.List.{List, [], _∷_, _++_, map}
-use Prim.Native.Nat.{ℕ, zero, suc, _+_, _-_}
+use Prim.Native.Nat.{ℕ, zero, suc}
 use lib.Dec.{ltb, eqb}
 use lib.IntN.{ℤ}
-use lib.ListN.{length, getD, take, replicate}
-use lib.Ieee.{Float, nan, mul}
-use lib.Ieee as ieee
-use Rattle.exponents.specs.Outcome.{Refusal, TABLE, SHAPE, number, Outcome, given, refused, unless, bind}
-use Rattle.exponents.specs.Outcome as outcome
+use lib.ListN.{length, getD, take}
+use lib.Ieee.{Float, binary64, nan, mul}
+use Rattle.exponents.specs.Words.{pick}
+use Rattle.exponents.specs.Outcome.{Refusal, TABLE, SHAPE, Outcome, given, refused, unless, apply, bind}
 use Rattle.exponents.specs.Fractions.{nought, unit}
 use Rattle.exponents.specs.declared.Exponent.{Exponent}
 use Rattle.floats.specs.Power.{one}
@@ -20,20 +19,9 @@ use Rattle.units.specs.declared.Row.{Row}
 use Rattle.units.specs.declared.Rows.{Rows}
 use Rattle.units.specs.Lists.{some, factorFault}
 use Rattle.tables.specs.Lists.{base}
-use Rattle.tables.specs.Key.{key}
-use Rattle.tables.specs.Scale.{binary64, scale, sizeBy}
+use Rattle.keys.specs.Key.{key}
+use Rattle.tables.specs.Scale.{doubles, scale, sizeBy}
 use Rattle.tables.specs.declared.Slot.{Slot}
-use Rattle.tables.specs.declared.Slots.{Slots}
-use Rattle.tables.specs.declared.Known.{Known}
-use Rattle.tables.specs.declared.rows.Worked.{Worked}
-use Rattle.tables.specs.declared.rows.Exps.{Exps}
-use Rattle.tables.specs.declared.scales.Scaled.{Scaled}
-use Rattle.tables.specs.declared.scales.Scaled.the-variants.{Value, Refused}
-
--- the first where the test holds, else the second
-abbrev pub pick : {A : Type 0} → Bool → A → A → A
-pick true a b = a
-pick false a b = b
 
 -- ---- what is known of an admitted row
 
@@ -100,11 +88,6 @@ unfoldable pub count : List Facts → ℕ
 count [] = 0
 count (k ∷ ks) = pick (k .base) (suc (count ks)) (count ks)
 
--- one row more
-unfoldable pub counted : Kind → ℕ → ℕ
-counted Base n = n + 1
-counted (Derived f) n = n
-
 -- a seventeenth base row, a base row with a definition; a factor that isn't finite and above zero
 unfoldable pub kindFault : Kind → ℕ → ℕ → Bool
 kindFault Base bases len = ltb 15 bases || not (eqb len 0)
@@ -130,7 +113,7 @@ rowExps (Derived f) ss ks r = base (bases (length ss) ks) (defOf r)
 -- a base row's scale is 1, a derived row's its factor times its definition's
 unfoldable pub rowScale : Kind → List Facts → Row → Outcome Float
 rowScale Base ks r = given one
-rowScale (Derived f) ks r = outcome.map (mul ieee.binary64 f) (scale binary64 (sizeBy (scaleAt ks)) (defOf r))
+rowScale (Derived f) ks r = apply (mul binary64 f) (scale doubles (sizeBy (scaleAt ks)) (defOf r))
 
 -- RANGE of the base exponents, then of the key, then FRACTION
 unfoldable pub workedOut : List Slot → List Facts → Row → Outcome Facts
@@ -139,14 +122,6 @@ workedOut ss ks r =
     bind (key e) (λ k.
     bind (rowScale (r .kind) ks r) (λ s.
     given (record { exps = e; key = k; scale = s; rank = r .rank; base = isBase (r .kind) }))))
-
--- a derived row, where there are n base rows
-abbrev pub rowDerived : ℕ → List Facts → Row → Float → Outcome Facts
-rowDerived n ks r f =
-    bind (base (bases n ks) (defOf r)) (λ e.
-    bind (key e) (λ k.
-    bind (outcome.map (mul ieee.binary64 f) (scale binary64 (sizeBy (scaleAt ks)) (defOf r))) (λ s.
-    given (record { exps = e; key = k; scale = s; rank = r .rank; base = false }))))
 
 unfoldable pub rowFacts : List Slot → List Facts → Row → Outcome Facts
 rowFacts ss ks r =
@@ -178,38 +153,14 @@ rowsOf r = take (r .len) (r .at)
 unfoldable pub admit : Rows → Admission
 admit r = pick (ltb 128 (r .len)) (stopped TABLE []) (admitFrom (slots (rowsOf r)) [] (rowsOf r))
 
--- ---- how code holds them: arrays of 16, clean past their ends
+-- what is known of the rows, or the table's refusal
+abbrev pub known : Admission → Outcome (List Facts)
+known (admitted ks) = given ks
+known (stopped r ks) = refused r
 
-abbrev pub noSlot : Slot
-noSlot = record { row = 0; rank = 0 }
+abbrev pub table : Rows → Outcome (List Facts)
+table t = known (admit t)
 
-unfoldable pub packSlots : List Slot → Slots
-packSlots ss = record { at = ss ++ replicate (16 - length ss) noSlot; len = length ss }
-
-unfoldable pub packExps : List Exponent → List Exponent
-packExps es = es ++ replicate (16 - length es) nought
-
--- the key is worked out again where it is used
-unfoldable pub knownOf : Facts → Known
-knownOf k = record { exps = packExps (k .exps); scale = k .scale; rank = k .rank; base = k .base }
-
-abbrev pub blankKnown : Known
-blankKnown = record { exps = replicate 16 nought; scale = one; rank = 0; base = false }
-
-abbrev pub noExps : ℕ → Exps
-noExps n = record { at = packExps []; refusal = n }
-
-abbrev pub expsOf : Outcome (List Exponent) → Exps
-expsOf (given es) = record { at = packExps es; refusal = 0 }
-expsOf (refused r) = noExps (number r)
-
-abbrev pub scaledOf : Outcome Float → Scaled
-scaledOf (given v) = Value v
-scaledOf (refused r) = Refused (number r)
-
-abbrev pub unworked : ℕ → Worked
-unworked n = record { known = blankKnown; refusal = n }
-
-abbrev pub workedOf : Outcome Facts → Worked
-workedOf (given k) = record { known = knownOf k; refusal = 0 }
-workedOf (refused r) = unworked (number r)
+-- the base rows of a table, in rank order
+abbrev pub baseRows : Rows → List Slot
+baseRows t = slots (rowsOf t)

@@ -4,8 +4,7 @@ use mathlib.Core.List.{List, [], _∷_}
 use Prim.Native.Nat.{ℕ}
 use lib.IntN.{ℤ}
 use lib.Dec.{eqb}
-use lib.Ieee.{Float, mul, div}
-use lib.Ieee as ieee
+use lib.Ieee.{Float, binary64, mul, div}
 use Rattle.exponents.specs.Outcome.{Outcome, given, refused, FRACTION, bind}
 use Rattle.floats.specs.Power as powers
 use Rattle.floats.specs.Values as values
@@ -23,11 +22,11 @@ pub record Numbers (R : Type 0) : Type 0 where
   pub isZero : R → Bool
 
 -- 01's numbers: IEEE 754 binary64
-abbrev pub binary64 : Numbers Float
-binary64 = record {
+abbrev pub doubles : Numbers Float
+doubles = record {
   one = powers.one;
-  times = mul ieee.binary64;
-  divide = div ieee.binary64;
+  times = mul binary64;
+  divide = div binary64;
   power = powers.power;
   isOne = values.isOne;
   isZero = values.isZero;
@@ -56,4 +55,4 @@ module _ {R : Type 0} (N : Numbers R) (size : Factor → R) where
 
 -- the size of a factor where its row has the scale s
 abbrev pub sizeBy : (ℕ → Float) → Factor → Float
-sizeBy s f = mul ieee.binary64 (factorOf (f .prefix)) (s (f .row))
+sizeBy s f = mul binary64 (factorOf (f .prefix)) (s (f .row))

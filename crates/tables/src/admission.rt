@@ -1,15 +1,14 @@
 // Admission of a table's rows, in row order (01, "Records and sizes", "The refusals"): the first fault decides.
 ghost use mathlib.Core.Path.{_≡_};
 ghost use mathlib.Core.Bool.{_||_, not};
-ghost use mathlib.Core.List.{List, []};
+ghost use mathlib.Core.List.{[]};
 ghost use Prim.Native.Nat.{_≤_, _<_};
 ghost use lib.Dec.{ltb, eqb};
-ghost use lib.ListN.{length, take};
+ghost use lib.ListN.{take};
 ghost use Rattle.units.specs.Lists.{some};
 ghost use Rattle.tables.specs.Rows as spec;
-ghost use Rattle.tables.specs.Rows.{Facts, rowsOf, defOf, packSlots, count};
-ghost use Rattle.tables.specs.Pages.{Room, Blank, Paged, Pages, RowIn, admittedOf};
-ghost use Rattle.tables.specs.declared.Slot.{Slot as Slotᵛ};
+ghost use Rattle.tables.specs.Rows.{rowsOf, defOf};
+ghost use Rattle.tables.specs.Held.{packSlots, Room, Blank, counted, Admits, Enters};
 use super::Admitted;
 use super::Slot;
 use super::Slots;
@@ -90,7 +89,7 @@ fn row_fault(row: Row, bases: usize, met: bool) -> bool
 // How many base rows there are with one row more.
 pub fn counted(k: Kind, bases: usize) -> usize
     requires { ⌜ bases ≤ 16 ⌝ }
-    ensures { λ r. ⌜ r ≡ spec.counted k bases ⌝ }
+    ensures { λ r. ⌜ r ≡ counted k bases ⌝ }
 {
     match k {
         Kind::Base => bases + 1,
@@ -128,7 +127,7 @@ pub fn admit_row(
     based: &mut [bool],
 ) -> u32
     requires { ⌜ (i < 128) × (slots .len ≤ 16) × Room (now nums) (now dens) (now scales) (now ranks) (now based) ⌝ }
-    ensures { λ r. ⌜ Room (now (nums .exit)) (now (dens .exit)) (now (scales .exit)) (now (ranks .exit)) (now (based .exit)) × ((ss : List Slotᵛ) (ks : List Facts) → slots ≡ packSlots ss → i ≡ length ks → bases ≡ count ks → Paged ks (now (nums .entry)) (now (dens .entry)) (now (scales .entry)) (now (ranks .entry)) (now (based .entry)) → RowIn ss ks row r (now (nums .exit)) (now (dens .exit)) (now (scales .exit)) (now (ranks .exit)) (now (based .exit))) ⌝ }
+    ensures { λ r. ⌜ Enters slots i bases row r (now (nums .entry)) (now (dens .entry)) (now (scales .entry)) (now (ranks .entry)) (now (based .entry)) (now (nums .exit)) (now (dens .exit)) (now (scales .exit)) (now (ranks .exit)) (now (based .exit)) ⌝ }
 {
     let met = rank_met(ranks, i, row.rank);
     if row_fault(row, bases, met) {
@@ -170,7 +169,7 @@ pub fn admit(
     based: &mut [bool],
 ) -> Admitted
     requires { ⌜ Room (now nums) (now dens) (now scales) (now ranks) (now based) × Blank 0 (now nums) (now dens) ⌝ }
-    ensures { λ r. ⌜ (r ≡ admittedOf (spec.slots (rowsOf rows)) (spec.admit rows)) × Room (now (nums .exit)) (now (dens .exit)) (now (scales .exit)) (now (ranks .exit)) (now (based .exit)) × Pages (spec.admit rows) (now (nums .exit)) (now (dens .exit)) (now (scales .exit)) (now (ranks .exit)) (now (based .exit)) ⌝ }
+    ensures { λ r. ⌜ Admits rows r (now (nums .exit)) (now (dens .exit)) (now (scales .exit)) (now (ranks .exit)) (now (based .exit)) ⌝ }
 {
     let n = rows.len;
     if 128 < n {

@@ -2,12 +2,10 @@
 // `admission`: `admit`. `no_items`: the empty resolved list.
 ghost use mathlib.Core.Path.{_≡_};
 ghost use mathlib.Core.List.{[]};
-ghost use Rattle.tables.specs.Items.{packed};
+ghost use Rattle.tables.specs.Held.{packed};
 use exponents::Exponent;
 use units::Factor;
 
-pub mod keys; // a row's key
-pub mod order; // comparing keys
 pub mod ranked; // the base rows in rank order
 pub mod scales; // powers of a scale
 pub mod pages; // what is known of all rows, as plain numbers

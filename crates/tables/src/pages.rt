@@ -1,12 +1,11 @@
 // What is known of all rows, as plain numbers in five arrays that are lent from function to function: row r's base exponents stand
 // at 16 r and the places behind it, in the order of the slots; its scale, its rank and whether it is base at r.
 ghost use mathlib.Core.Path.{_≡_};
-ghost use mathlib.Core.List.{List};
 ghost use Prim.Native.Nat.{_+_, _*_, _<_, _≤_};
 ghost use lib.ListN.{length, getD, take, drop};
 ghost use lib.IntN.{pos};
 ghost use lib.Seq.{sets};
-ghost use Rattle.tables.specs.Pages.{tops, bottoms, told};
+ghost use Rattle.tables.specs.Held.{tops, bottoms, told};
 use exponents::Exponent;
 
 // The exponent at place i.

@@ -6,14 +6,14 @@ ghost use Prim.Native.Nat.{_≤_};
 ghost use lib.Dec.{ltb};
 ghost use lib.ListN.{length};
 ghost use Rattle.exponents.specs.Outcome.{bind};
-ghost use Rattle.exponents.specs.Fractions.{nought, fractionOf, add?, mul?, faulty as isFaulty};
+ghost use Rattle.exponents.specs.Fractions.{nought, add?, mul?, faulty as isFaulty};
+ghost use Rattle.exponents.specs.Held.{fractionOf};
 ghost use Rattle.units.specs.Lists.{some, factorFault};
 ghost use Rattle.tables.specs.Lists.{base};
-ghost use Rattle.tables.specs.Rows.{Facts, blankKnown, defOf, bases, noExps, expsOf, scaleAt, scaledOf};
-ghost use Rattle.tables.specs.Rows.{unworked as unworkedBy, workedOf, workedOut, packSlots, packExps, selfExp, rowDerived};
+ghost use Rattle.tables.specs.Rows.{Facts, defOf, bases, scaleAt, workedOut, selfExp};
+ghost use Rattle.tables.specs.Held.{blankKnown, noExps, expsOf, scaledOf, unworked as unworkedBy, workedOf, packSlots, packExps, rowDerived, Reaching, Filed, Sized};
 ghost use Rattle.tables.specs.declared.Slot.{Slot as Slotᵛ};
-ghost use Rattle.tables.specs.Pages.{Reaching, Filed, Sized};
-ghost use Rattle.tables.specs.Scale.{binary64, scale, sizeBy};
+ghost use Rattle.tables.specs.Scale.{doubles, scale, sizeBy};
 use super::Known;
 use super::Slot;
 use super::Slots;
@@ -131,7 +131,7 @@ fn exps_of(row: Row, nums: &[i32], dens: &[u32], n: usize) -> Exps
 // The scale of a definition.
 fn scale_of(row: Row, scales: &[f64]) -> Scaled
     requires { ⌜ (row .len ≤ 8) × (some (λ f. not (ltb (f .row) 128)) (defOf row) ≡ false) × (length (now scales) ≡ 128) ⌝ }
-    ensures { λ r. ⌜ ((ks : List Facts) → Reaching ks (defOf row) → Sized ks (now (scales .entry)) → r ≡ scaledOf (scale binary64 (sizeBy (scaleAt ks)) (defOf row))) ⌝ }
+    ensures { λ r. ⌜ ((ks : List Facts) → Reaching ks (defOf row) → Sized ks (now (scales .entry)) → r ≡ scaledOf (scale doubles (sizeBy (scaleAt ks)) (defOf row))) ⌝ }
 {
     let m = row.len;
     let mut acc = 1.0;
@@ -227,7 +227,7 @@ fn derived_row(
         return unworked(e.refusal);
     }
     let exps = e.at;
-    let q = super::keys::key_fault(exps);
+    let q = keys::making::key_fault(exps);
     if q != 0 {
         return unworked(q);
     }

@@ -1,7 +1,7 @@
 // Powers of a scale (01, "Powers and scales"): whole exponents by the power rule, others only on exactly 1.
 ghost use mathlib.Core.Path.{_≡_};
-ghost use Rattle.tables.specs.Scale.{binary64, raisedTo};
-ghost use Rattle.tables.specs.Rows.{scaledOf};
+ghost use Rattle.tables.specs.Scale.{doubles, raisedTo};
+ghost use Rattle.tables.specs.Held.{scaledOf};
 use exponents::Exponent;
 use exponents::refusals::FRACTION;
 
@@ -13,7 +13,7 @@ pub enum Scaled {
 
 // size to the e
 pub fn raised(size: f64, e: Exponent) -> Scaled
-    ensures { λ r. ⌜ r ≡ scaledOf (raisedTo binary64 size e) ⌝ }
+    ensures { λ r. ⌜ r ≡ scaledOf (raisedTo doubles size e) ⌝ }
 {
     if e.den == 1 {
         return Scaled::Value(floats::power(size, e.num));

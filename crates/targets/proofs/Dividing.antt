@@ -10,7 +10,7 @@ use Rattle.exponents.proofs.InRange.{ranged-holds}
 use Rattle.exponents.proofs.Rationals.{Q, q≡, times, norm, norm-low, of-pos, mul-norm, value}
 use Rattle.exponents.proofs.Totals.{worth}
 use Rattle.exponents.proofs.Value.{Value}
-use Rattle.tables.proofs.Proportional.{Some}
+use Rattle.keys.proofs.Proportional.{Some}
 
 pub record Division (W : Value) : Type 0 where
   pub act-comm : (e f : Exponent) (a : W .Q) → W .act e (W .act f a) ≡ W .act f (W .act e a)

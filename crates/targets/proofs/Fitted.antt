@@ -1,38 +1,39 @@
 -- A group's target: the first base exponent of a row, the summed exponents, and the answer case by case.
 use mathlib.Core.Path.{_≡_, refl, sym, ap, ap₂, _∙_}
-use mathlib.Core.Bool.{Bool, true, false, true≢false}
-use mathlib.Core.List.{List, [], _∷_, _++_}
+use mathlib.Core.Bool.{true, false, true≢false}
+use mathlib.Core.List.{List, [], _∷_}
 use mathlib.Core.List as list
 use Prim.Native.Nat.{ℕ, zero, suc, _+_, _-_, _≤_, _<_}
 use native.Mathlib.Numerals.{add-one}
 use native.Mathlib.Omega.{arith}
 use lib.IntN.{ℤ, pos, negsuc}
-use lib.ListN.{length, drop, getD, replicate}
-use Rattle.exponents.specs.Outcome.{Outcome, given, map, bind, each}
-use Rattle.exponents.specs.Fractions.{nought, unit, sameZ, same, add?, mul?, div?, sum?, fractionOf}
+use lib.ListN.{length, drop, getD}
+use Rattle.exponents.specs.Outcome.{Outcome, given, apply, bind, each}
+use Rattle.exponents.specs.Fractions.{nought, unit, sameZ, same, add?, mul?, div?, sum?}
+use Rattle.exponents.specs.Held.{fractionOf}
 use Rattle.exponents.specs.declared.Exponent.{Exponent}
 use Rattle.exponents.specs.declared.Fraction.{Fraction}
 use Rattle.exponents.specs.declared.Fraction.the-variants.{Exact, Refused}
-use Rattle.exponents.proofs.Holds.{bind-given, bind-refused}
+use Rattle.exponents.proofs.Holds.{one-answer, bind-given, bind-refused}
 use Rattle.exponents.proofs.Numbers.{Refuses, exact-given, refused-refuses}
 use Rattle.exponents.proofs.Summing.{sum-on, sum-off, sum-end}
 use Rattle.units.specs.declared.Factor.{Factor}
 use Rattle.tables.specs.declared.Item.{Item}
 use Rattle.tables.specs.declared.Items.{Items}
-use Rattle.tables.specs.Key.{other, first}
+use Rattle.keys.specs.Key.{other, first}
 use Rattle.tables.specs.Lists.{baseAt, base}
-use Rattle.tables.specs.Rows.{pick, places, packExps}
-use Rattle.tables.specs.Pages.{told}
-use Rattle.tables.specs.Items.{View, Lent, viewBases, itemOf, packItems, packed}
-use Rattle.canonical.specs.Order.{atom, of}
+use Rattle.exponents.specs.Words.{pick}
+use Rattle.tables.specs.Rows.{places}
+use Rattle.tables.specs.Held.{packExps, told, View, viewBases, itemOf, packItems, packed, Lends, rulesBy}
+use Rattle.tables.specs.Order.{atom, of}
+use Rattle.tables.specs.Rules.{Rules}
 use Rattle.canonical.specs.Canonical.{allNought}
-use Rattle.canonical.specs.Terms.{withFactor}
-use Rattle.canonical.specs.Form.{emptyBut, formOf}
+use Rattle.canonical.specs.Held.{withFactor, emptyBut, formOf}
 use Rattle.canonical.specs.declared.form.Form.{Form}
 use Rattle.reduction.proofs.Compared.{packed-nought}
 use Rattle.reduction.proofs.Resolved.{nilItem, item-at}
-use Rattle.targets.specs.Firsts.{Short, firstTold}
-use Rattle.targets.specs.Groups.{share, withShare, summed, fitted, greatest, target}
+use Rattle.targets.specs.Held.{firstTold, withShare}
+use Rattle.targets.specs.Groups.{share, summed, fitted, greatest, target}
 use Rattle.targets.proofs.Searching.{answer-none, answer-one, answer-refused}
 
 -- ---- the first base exponent of a row: the places before i are zero
@@ -76,17 +77,6 @@ pub first-start : (nums : List ℤ) (dens : List ℕ) (r : ℕ) → firstTold nu
 unfolding firstTold
 first-start nums dens r = refl
 
--- the zeros past the base rows make no difference
-padded-first : (k : ℕ) (es : List Exponent) → first (es ++ replicate k nought) ≡ first es
-unfolding first other
-padded-first zero [] = refl
-padded-first (suc k) [] = padded-first k []
-padded-first k (e ∷ es) = ap (other (e .num) e) (padded-first k es)
-
-pub first-packed : (es : List Exponent) → first (packExps es) ≡ first es
-unfolding packExps
-first-packed es = padded-first (16 - length es) es
-
 abbrev pub firsts : View → ℕ → Exponent
 firsts v a = first (v .exps a)
 
@@ -107,9 +97,9 @@ read-first f (suc n) p (e ∷ es) k h =
     (read-first f n (suc p) es (omega arith) (λ s l. h (suc s) (omega arith) ∙ spot f (p + suc s) (suc p + s) (omega arith)))
 
 -- what the arrays tell is the row's
-pub told-first : (v : View) (nums : List ℤ) (dens : List ℕ) → Lent v nums dens → Short v → (r : ℕ) → firstTold nums dens r ≡ firsts v r
+pub told-first : {v : View} {n : ℕ} {nums : List ℤ} {dens : List ℕ} → Lends v n nums dens → (r : ℕ) → firstTold nums dens r ≡ firsts v r
 unfolding firstTold
-told-first v nums dens lent short r = read-first (told nums dens r) 16 0 (v .exps r) (short r) (λ s l. lent r s l ∙ spot (told nums dens r) s (0 + s) (omega arith))
+told-first {v} {n} {nums} {dens} k r = read-first (told nums dens r) 16 0 (v .exps r) (k .short r) (λ s l. k .lent r s l ∙ spot (told nums dens r) s (0 + s) (omega arith))
 
 -- ---- what an item has in a representative, added to acc: w is the first base exponent of its row
 module _ (v : View) (d acc : Exponent) (it : Item) (f : Factor) (e : it ≡ itemOf v f) (w : Exponent) (is : w ≡ firsts v (it .factor .row)) where
@@ -161,43 +151,40 @@ summed-start v d fs = refl
 none-base : (bs : List (ℕ → Exponent)) → base bs [] ≡ given (list.map (λ b. nought) bs)
 unfolding base baseAt each sum? bind
 none-base [] = refl
-none-base (b ∷ bs) = ap (map (λ m. nought ∷ m)) (none-base bs)
+none-base (b ∷ bs) = ap (apply (λ m. nought ∷ m)) (none-base bs)
 
 none-scalar : (bs : List (ℕ → Exponent)) → allNought (list.map (λ b. nought) bs) ≡ true
 unfolding allNought same sameZ
 none-scalar [] = refl
 none-scalar (b ∷ bs) = none-scalar bs
 
-module _ (bs : List (ℕ → Exponent)) (isBase : ℕ → Bool) (firstOf : ℕ → Exponent) where
+module _ {A : Type 0} (R : Rules A) where
   abbrev otherwise : List Factor → Outcome (List Factor)
   otherwise [] = given []
-  otherwise (f ∷ l) = fitted firstOf (greatest isBase f l) (f ∷ l)
+  otherwise (f ∷ l) = fitted (R .lead) (greatest (R .isBase) f l) (f ∷ l)
 
-  by-base : (l : List Factor) → target bs isBase firstOf l ≡ bind (base bs l) (λ x. pick (allNought x) (given []) (otherwise l))
+  by-base : (l : List Factor) → target R l ≡ bind (base (R .bases) l) (λ x. pick (allNought x) (given []) (otherwise l))
   unfolding target
-  by-base [] = sym (bind-given _ (none-base bs) ∙ ap (λ t. pick t (given []) (given [])) (none-scalar bs))
+  by-base [] = sym (bind-given _ (none-base (R .bases)) ∙ ap (λ t. pick t (given []) (given [])) (none-scalar (R .bases)))
   by-base (f ∷ l) = refl
 
 -- ---- as code hands it over
 module _ (v : View) (n : ℕ) (fs : List Factor) where
   abbrev pub answer : Outcome (List Factor)
-  answer = target (viewBases v n) (v .base) (firsts v) fs
+  answer = target (rulesBy v n) fs
 
   pub target-range : (k : ℕ) → Refuses (base (viewBases v n) fs) k → emptyBut k ≡ formOf v answer
-  target-range k r = answer-refused v r (by-base (viewBases v n) (v .base) (firsts v) fs ∙ bind-refused _ (r .is))
+  target-range k r = answer-refused v r (by-base (rulesBy v n) fs ∙ bind-refused _ (r .is))
 
   module _ (xs x : List Exponent) (b : base (viewBases v n) fs ≡ given xs) (at : x ≡ packExps xs) where
     zeros : allNought x ≡ allNought xs
     zeros = ap allNought at ∙ packed-nought xs
 
-    decided : answer ≡ pick (allNought x) (given []) (otherwise (viewBases v n) (v .base) (firsts v) fs)
-    decided =
-        by-base (viewBases v n) (v .base) (firsts v) fs
-        ∙ bind-given _ b
-        ∙ ap (λ t. pick t (given []) (otherwise (viewBases v n) (v .base) (firsts v) fs)) (sym zeros)
+    decided : answer ≡ pick (allNought x) (given []) (otherwise (rulesBy v n) fs)
+    decided = by-base (rulesBy v n) fs ∙ bind-given _ b ∙ ap (λ t. pick t (given []) (otherwise (rulesBy v n) fs)) (sym zeros)
 
     pub target-scalar : allNought x ≡ true → emptyBut 0 ≡ formOf v answer
-    target-scalar h = answer-none v (decided ∙ ap (λ t. pick t (given []) (otherwise (viewBases v n) (v .base) (firsts v) fs)) h)
+    target-scalar h = answer-none v (decided ∙ ap (λ t. pick t (given []) (otherwise (rulesBy v n) fs)) h)
 
 -- a group that isn't scalar: `it` is its representative's item, d its first base exponent, s the summed exponents
 pub record Choice (v : View) (n : ℕ) (fs : List Factor) (it : Item) : Type 0 where
@@ -207,10 +194,7 @@ pub record Choice (v : View) (n : ℕ) (fs : List Factor) (it : Item) : Type 0 w
 
 pub chosen : (v : View) (n : ℕ) (l : Items) (fs : List Factor) → l ≡ packItems v fs → (xs x : List Exponent) → base (viewBases v n) fs ≡ given xs → x ≡ packExps xs → allNought x ≡ false
     → (p : ℕ) → ((f : Factor) (gs : List Factor) → fs ≡ f ∷ gs → (p < length (f ∷ gs)) × (getD (f ∷ gs) p f ≡ greatest (v .base) f gs)) → Choice v n fs (getD (l .at) p nilItem)
-chosen v n l [] e xs x b at z p rep = absurd (true≢false (sym (zeros v n [] xs x b at ∙ ap allNought (same-given (sym b ∙ none-base (viewBases v n))) ∙ none-scalar (viewBases v n)) ∙ z))
-  where
-    same-given : {x y : List Exponent} → _≡_ {A = Outcome (List Exponent)} (given x) (given y) → x ≡ y
-    same-given q = cc
+chosen v n l [] e xs x b at z p rep = absurd (true≢false (sym (zeros v n [] xs x b at ∙ ap allNought (one-answer (sym b ∙ none-base (viewBases v n))) ∙ none-scalar (viewBases v n)) ∙ z))
 chosen v n l (f ∷ gs) e xs x b at z p rep =
     let r = rep f gs refl in
     record {
@@ -230,10 +214,10 @@ module _ (v : View) (n : ℕ) (fs : List Factor) (it : Item) (k : Choice v n fs 
   unfolding fitted
   fitted-off m q =
       let r = refused-refuses total m (sym of-factor ∙ q) in
-      answer-refused v r (k .answers ∙ ap (map (λ e. of (atom (k .factor)) e ∷ [])) (r .is))
+      answer-refused v r (k .answers ∙ ap (apply (λ e. of (atom (k .factor)) e ∷ [])) (r .is))
 
   pub fitted-on : (t : Exponent) → s ≡ Exact t → (y : Item) → y ≡ withFactor it (of (atom (it .factor)) t) → (m : Items) → m ≡ packed (y ∷ []) → _≡_ {A = Form} (record { list = m; refusal = 0 }) (formOf v (answer v n fs))
   unfolding fitted
   fitted-on t q y a m b =
       answer-one v m y (of (atom (k .factor)) t) b (a ∙ ap (λ (it : Item). withFactor it (of (atom (it .factor)) t)) (k .is))
-      (k .answers ∙ ap (map (λ e. of (atom (k .factor)) e ∷ [])) (exact-given total t (sym of-factor ∙ q)))
+      (k .answers ∙ ap (apply (λ e. of (atom (k .factor)) e ∷ [])) (exact-given total t (sym of-factor ∙ q)))

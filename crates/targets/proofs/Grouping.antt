@@ -1,27 +1,28 @@
 -- Groups as the code finds them: a list's first group and what stands behind it, the greatest of a group, and items put one by one into a list.
 use mathlib.Core.Path.{_≡_, refl, sym, _∙_, ap, ap₂}
 use mathlib.Core.Bool.{Bool, true, false, not, _&&_, _||_}
-use mathlib.Core.List.{List, [], _∷_, _++_, map, append-assoc, append-nil, map-append}
+use mathlib.Core.List.{List, [], _∷_, _++_, append-assoc, append-nil}
 use Prim.Native.Nat.{ℕ, zero, suc, _+_, _-_, _≤_, _<_}
 use native.Mathlib.Numerals.{add-one}
 use native.Mathlib.Omega.{arith}
 use borrow.Author.Tests.{eq-eqb, ne-eqb}
 use lib.Dec.{eqb}
-use lib.ListN.{length, take, drop, getD, set, replicate, length-map, length-append, take-append-drop, drop-of-length-le}
+use lib.ListN.{length, take, drop, getD, set, length-append, length-drop, drop-of-length-le}
 use lib.Seq.{take-suc, length-take-le}
 use Rattle.exponents.specs.Fractions.{less}
 use Rattle.units.specs.declared.Factor.{Factor}
-use Rattle.units.specs.Lists.{noFactor, some}
-use Rattle.units.proofs.Laws.{stored}
-use Rattle.tables.specs.Rows.{pick}
-use Rattle.tables.specs.Items.{View, itemOf, noItem, packItems, packed}
+use Rattle.units.specs.Lists.{noFactor, factorFault}
+use Rattle.exponents.specs.Words.{pick, All}
+use Rattle.tables.specs.Held.{View, Stands, itemOf, packItems, packed, Resolved}
 use Rattle.tables.specs.declared.Item.{Item}
 use Rattle.tables.specs.declared.Items.{Items}
-use Rattle.tables.proofs.Places.{All, rest}
-use Rattle.canonical.proofs.Keeping.{pick-is}
+use Rattle.exponents.proofs.Places.{rest}
+use Rattle.exponents.proofs.Words.{pick-is}
+use Rattle.canonical.proofs.Keeping.{each-faultless, none-faulty, Kept}
 use Rattle.canonical.proofs.Seen.{len-items, read-items}
-use Rattle.reduction.proofs.Adding.{some-left}
-use Rattle.targets.specs.Groups.{onto, groups, following, leading, above, greatest}
+use Rattle.tables.proofs.Resolved.{push-items}
+use Rattle.targets.specs.Groups.{onto, groups, above, greatest}
+use Rattle.targets.specs.Held.{following, leading}
 
 -- what holds of each of a list holds of each behind a place
 pub all-drop : {A : Type 0} (P : A → Type 0) (n : ℕ) (l : List A) → All P l → All P (drop n l)
@@ -44,20 +45,10 @@ module _ (alike : ℕ → ℕ → Bool) where
       go true gs e h = ap (λ m. (f ∷ g ∷ following alike g l) ∷ m) (sym e)
       go false gs e h = ap (λ m. (f ∷ []) ∷ m) (sym h)
 
-  following-take : (f : Factor) (l : List Factor) → following alike f l ≡ take (length (following alike f l)) l
-  unfolding following
-  following-take f [] = refl
-  following-take f (g ∷ l) = pick-is (λ m. m ≡ take (length m) (g ∷ l)) (alike (f .row) (g .row)) (ap (λ m. g ∷ m) (following-take g l)) refl
-
   following-short : (f : Factor) (l : List Factor) → length (following alike f l) ≤ length l
   unfolding following
   following-short f [] = omega arith
   following-short f (g ∷ l) = pick-is (λ m. length m ≤ suc (length l)) (alike (f .row) (g .row)) {a = g ∷ following alike g l} {b = []} (omega (arith, following-short g l)) (omega arith)
-
-  leading-take : (l : List Factor) → leading alike l ≡ take (length (leading alike l)) l
-  unfolding leading
-  leading-take [] = refl
-  leading-take (f ∷ l) = ap (λ m. f ∷ m) (following-take f l)
 
   pub leading-short : (l : List Factor) → length (leading alike l) ≤ length l
   unfolding leading
@@ -77,11 +68,29 @@ module _ (alike : ℕ → ℕ → Bool) where
   groups-next [] h = absurd (omega arith)
   groups-next (f ∷ l) h = groups-lead f l ∙ ap (λ n. leading alike (f ∷ l) ∷ groups alike (drop n (f ∷ l))) (sym (leading-long f l))
 
-  -- a fault that none of a list has
-  pub leading-none : (fault : Factor → Bool) (l : List Factor) → some fault l ≡ false → some fault (leading alike l) ≡ false
-  leading-none fault l h =
-      let n = length (leading alike l) in
-      ap (some fault) (leading-take l) ∙ some-left fault (take n l) (drop n l) (ap (some fault) (take-append-drop n l) ∙ h)
+  -- what holds of each of a list holds of each of its first group
+  module _ (P : Factor → Type 0) where
+    following-all : (f : Factor) (l : List Factor) → All P l → All P (following alike f l)
+    unfolding following
+    following-all f [] h = tt
+    following-all f (g ∷ l) h = pick-is (All P) (alike (f .row) (g .row)) {a = g ∷ following alike g l} {b = []} (h .0, following-all g l (h .1)) tt
+
+    leading-all : (l : List Factor) → All P l → All P (leading alike l)
+    unfolding leading
+    leading-all [] h = tt
+    leading-all (f ∷ l) h = (h .0, following-all f l (h .1))
+
+-- tests that agree on the rows of a list give it the same first group
+module _ (P : ℕ → Type 0) (alike alike′ : ℕ → ℕ → Bool) (agree : (r s : ℕ) → P r → P s → alike r s ≡ alike′ r s) where
+  following-agrees : (f : Factor) (l : List Factor) → P (f .row) → All (λ g. P (g .row)) l → following alike f l ≡ following alike′ f l
+  unfolding following
+  following-agrees f [] p h = refl
+  following-agrees f (g ∷ l) p h = ap₂ (λ t m. pick t (g ∷ m) []) (agree (f .row) (g .row) p (h .0)) (following-agrees g l (h .0) (h .1))
+
+  leading-agrees : (l : List Factor) → All (λ g. P (g .row)) l → leading alike l ≡ leading alike′ l
+  unfolding leading
+  leading-agrees [] h = refl
+  leading-agrees (f ∷ l) h = ap (λ m. f ∷ m) (following-agrees f l (h .0) (h .1))
 
 -- ---- items put one by one into a list
 
@@ -90,20 +99,6 @@ unfolding packed
 one-len g x e = ap (λ (g : Items). g .len) e
 
 module _ (v : View) where
-  -- one more
-  pub push-items : (done : List Factor) (f : Factor) (o : Items) (x : Item) (n : ℕ) → o ≡ packItems v done → x ≡ itemOf v f → length done ≡ n → n < 16 →
-      _≡_ {A = Items} (record { at = set (o .at) n x; len = n + 1 }) (packItems v (done ++ (f ∷ [])))
-  unfolding packItems
-  push-items done f o x n e q s h =
-      let are = map (itemOf v) done in
-      ap₂ (λ (l : List Item) (k : ℕ). record { at = l; len = k })
-      (ap₂ (λ (o : Items) (x : Item). set (o .at) n x) e q
-      ∙ ap (λ k. set (are ++ replicate (16 - k) noItem) n (itemOf v f)) (sym (length-map done (itemOf v)))
-      ∙ stored are noItem (itemOf v f) n (length-map done (itemOf v) ∙ s) h
-      ∙ ap (λ (l : List Item). l ++ replicate (16 - length l) noItem) (sym (map-append (itemOf v) done (f ∷ [])))
-      ∙ ap (λ k. map (itemOf v) (done ++ (f ∷ [])) ++ replicate (16 - k) noItem) (length-map (done ++ (f ∷ [])) (itemOf v)))
-      (sym (length-append done (f ∷ []) ∙ ap (λ k. k + 1) s))
-
   pub one-item : (f : Factor) (x : Item) → x ≡ itemOf v f → packed (x ∷ []) ≡ packItems v (f ∷ [])
   unfolding packed packItems
   one-item f x e = ap (λ x. packed (x ∷ [])) e
@@ -117,13 +112,31 @@ module _ (v : View) where
         _≡_ {A = Items} (record { at = set (o .at) (o .len) x; len = o .len + 1 }) (packItems v (fs ++ take (i + 1) gs))
     joined-on x h k q =
         let n = joined-long (omega arith) in
-        push-items (fs ++ take i gs) (getD gs i noFactor) o x (o .len) so-far q (sym (len-items v (fs ++ take i gs) o so-far)) (omega arith)
+        push-items v (fs ++ take i gs) (getD gs i noFactor) o x (o .len) so-far q (sym (len-items v (fs ++ take i gs) o so-far)) (omega arith)
         ∙ ap (packItems v) (append-assoc fs (take i gs) (getD gs i noFactor ∷ []) ∙ ap (λ l. fs ++ l) (sym (ap (λ n. take n gs) (add-one i) ∙ take-suc gs i noFactor h)))
 
 -- ---- the group from place i on: g holds its factors before place j
 
 abbrev pub sameClass : View → ℕ → ℕ → Bool
 sameClass v a b = eqb (v .class a) (v .class b)
+
+module _ {v : View} {c : Items} {fs : List Factor} (r : Resolved v c fs) (i : ℕ) where
+  abbrev Known : Factor → Type 0
+  Known f = Stands (f .row) (v .among)
+
+  -- the group by classes is the group by keys
+  pub by-class : leading (sameClass v) (drop i fs) ≡ leading (v .alike) (drop i fs)
+  by-class = leading-agrees (λ s. Stands s (v .among)) (sameClass v) (v .alike) (r .placed .class) (drop i fs) (all-drop Known i fs (r .named))
+
+  -- it is resolved
+  pub group-resolved : (x : Items) → x ≡ packItems v (leading (v .alike) (drop i fs)) → Resolved v x (leading (v .alike) (drop i fs))
+  group-resolved x e = record {
+    is = e;
+    short = omega (arith, leading-short (v .alike) (drop i fs), length-drop i fs, r .short);
+    shaped = none-faulty factorFault _ (leading-all (v .alike) Kept (drop i fs) (all-drop Kept i fs (each-faultless factorFault fs (r .shaped))));
+    named = leading-all (v .alike) Known (drop i fs) (all-drop Known i fs (r .named));
+    placed = r .placed;
+  }
 
 module _ (v : View) (fs : List Factor) (i : ℕ) where
   abbrev row : ℕ → ℕ

@@ -17,13 +17,13 @@ use Rattle.exponents.proofs.Totals.{worth, total}
 use Rattle.exponents.proofs.Value.{Value}
 use Rattle.units.specs.declared.Factor.{Factor}
 use Rattle.tables.specs.Lists.{base}
-use Rattle.tables.specs.Rows.{pick}
-use Rattle.tables.proofs.Each.{Along, done, next, each-holds}
-use Rattle.canonical.specs.Order.{atom, of}
+use Rattle.exponents.specs.Words.{pick}
+use Rattle.exponents.proofs.Each.{Along, done, next, each-holds}
+use Rattle.tables.specs.Order.{atom, of}
 use Rattle.canonical.specs.Canonical.{sameAll, allNought}
 use Rattle.canonical.proofs.Algebra.{exact}
 use Rattle.canonical.proofs.Bases.{Agree, Exactly, base-exact, base-decides}
-use Rattle.canonical.proofs.Keeping.{pick-is}
+use Rattle.exponents.proofs.Words.{pick-is}
 use Rattle.reduction.specs.Multiple.{Maybe, times, none, firstBase, fits, multipleOf, isMultiple}
 use Rattle.reduction.proofs.Fitting.{quotient-sound}
 use Rattle.targets.specs.Single.{wholly, search, single}

@@ -1,17 +1,17 @@
 -- The groups of a list (01, "Simplification", third step): joined they are the list, and in a table the rows of each have one key.
 use mathlib.Core.Path.{_≡_, refl, _∙_, ap}
-use mathlib.Core.Bool.{Bool, true, false}
+use mathlib.Core.Bool.{Bool, true}
 use mathlib.Core.List.{List, [], _∷_, flatten}
 use Prim.Native.Nat.{ℕ, _<_}
 use lib.IntN.{ℤ}
 use lib.ListN.{length}
+use Rattle.exponents.proofs.Words.{pick-by, pick-is}
 use Rattle.units.specs.declared.Factor.{Factor}
-use Rattle.tables.specs.Rows.{pick, Facts}
-use Rattle.tables.specs.Items.{keyOrder}
-use Rattle.tables.proofs.Places.{All}
-use Rattle.canonical.specs.Canonical.{isEq}
+use Rattle.exponents.specs.Words.{All}
+use Rattle.tables.specs.Rows.{Facts}
+use Rattle.tables.specs.Order.{keyOrder}
+use Rattle.keys.specs.Orders.{isEq}
 use Rattle.canonical.proofs.Equal.{isEq-decides}
-use Rattle.canonical.proofs.Keeping.{pick-is}
 use Rattle.targets.specs.Groups.{onto, groups}
 use Rattle.targets.proofs.Proportions.{keyAt, same-key, Keyed}
 
@@ -53,11 +53,7 @@ module _ (ks : List Facts) where
   unfolding onto
   onto-keyed f [] h o = (alone f h, tt)
   onto-keyed f ([] ∷ gs) h o = (alone f h, o .1)
-  onto-keyed f ((g ∷ l) ∷ gs) h o = either (alikeIn (f .row) (g .row)) refl
-    where
-      either : (t : Bool) → alikeIn (f .row) (g .row) ≡ t → All (OneKey ks) (pick t ((f ∷ g ∷ l) ∷ gs) ((f ∷ []) ∷ (g ∷ l) ∷ gs))
-      either true e = (before f g l h e (o .0), o .1)
-      either false e = (alone f h, o)
+  onto-keyed f ((g ∷ l) ∷ gs) h o = pick-by (All (OneKey ks)) (alikeIn (f .row) (g .row)) {a = (f ∷ g ∷ l) ∷ gs} {b = (f ∷ []) ∷ (g ∷ l) ∷ gs} (λ e. (before f g l h e (o .0), o .1)) (λ _. (alone f h, o))
 
   pub groups-keyed : (c : List Factor) → All Known c → All (OneKey ks) (groups alikeIn c)
   unfolding groups

@@ -16,18 +16,18 @@ use Rattle.exponents.proofs.Totals.{worth, zero-add, total}
 use Rattle.exponents.proofs.Value.{Value}
 use Rattle.units.specs.declared.Factor.{Factor}
 use Rattle.units.specs.declared.Rows.{Rows}
-use Rattle.tables.specs.Key.{entries, first}
-use Rattle.tables.specs.Rows.{pick, Facts, nobody, expAt, places, bases, slots, rowsOf, admitted, admit}
-use Rattle.tables.specs.Items.{keyOrder}
+use Rattle.keys.specs.Key.{entries, first}
+use Rattle.exponents.specs.Words.{pick, All}
+use Rattle.tables.specs.Rows.{Facts, nobody, expAt, places, slots, rowsOf, admitted, admit}
+use Rattle.tables.specs.Rules.{Rules, rulesIn}
+use Rattle.tables.specs.Order.{keyOrder, atom, of}
 use Rattle.tables.proofs.Alike.{table-sound, alike}
-use Rattle.tables.proofs.Each.{all-imp}
+use Rattle.exponents.proofs.Each.{all-imp}
 use Rattle.tables.proofs.Filled.{admit-rows, table-length}
-use Rattle.tables.proofs.Places.{All}
-use Rattle.tables.proofs.Proportional.{Some, first-Some}
+use Rattle.keys.proofs.Proportional.{Some, first-Some}
 use Rattle.tables.proofs.Terms.{nilRow}
 use Rattle.tables.proofs.Total.{both-total, lists-total, nat-total, z-total}
 use Rattle.canonical.specs.Canonical.{allNought}
-use Rattle.canonical.specs.Order.{atom, of}
 use Rattle.canonical.proofs.Algebra.{exact}
 use Rattle.canonical.proofs.Bases.{Agree, base-nought, agree-all}
 use Rattle.targets.specs.Groups.{greatest, share, summed, fitted, target}
@@ -76,26 +76,26 @@ module _ (W : Value) (D : Division W) (first : ℕ → Exponent) (r : Factor) (s
   fitted-keeps bs l h = holds-map _ (holds-eq (summed first (first (r .row)) l)) λ e q. fitted-agrees bs l e h q
 
 -- ---- the target of a group. P tells of a row that it is one of some that are proportional, two by two.
-module _ (W : Value) (D : Division W) (bs : List (ℕ → Exponent)) (isBase : ℕ → Bool) (first : ℕ → Exponent) (P : ℕ → Type 0)
-    (some : (r : ℕ) → P r → Some (first r)) (like : (r s : ℕ) → P r → P s → All (λ b. Likeness W first b r s) bs) where
+module _ (W : Value) (D : Division W) {A : Type 0} (R : Rules A) (P : ℕ → Type 0)
+    (some : (r : ℕ) → P r → Some (R .lead r)) (like : (r s : ℕ) → P r → P s → All (λ b. Likeness W (R .lead) b r s) (R .bases)) where
   abbrev Of : Factor → Type 0
   Of f = P (f .row)
 
-  likes : (r : Factor) → Of r → (cs : List (ℕ → Exponent)) (l : List Factor) → ((f : Factor) → Of f → All (λ b. Likeness W first b (r .row) (f .row)) cs) → All Of l → All (λ b. All (λ f. Likeness W first b (r .row) (f .row)) l) cs
+  likes : (r : Factor) → Of r → (cs : List (ℕ → Exponent)) (l : List Factor) → ((f : Factor) → Of f → All (λ b. Likeness W (R .lead) b (r .row) (f .row)) cs) → All Of l → All (λ b. All (λ f. Likeness W (R .lead) b (r .row) (f .row)) l) cs
   likes r p [] l h k = tt
   likes r p (b ∷ cs) l h k = (all-imp l (λ f q. h f q .0) k, likes r p cs l (λ f q. h f q .1) k)
 
-  scalar-or : (t : Bool) (g : List Factor) (r : Factor) → Of r → All Of g → (t ≡ true → Agree W bs g []) → Holds (λ m. Agree W bs g m) (pick t (given []) (fitted first r g))
+  scalar-or : (t : Bool) (g : List Factor) (r : Factor) → Of r → All Of g → (t ≡ true → Agree W (R .bases) g []) → Holds (λ m. Agree W (R .bases) g m) (pick t (given []) (fitted (R .lead) r g))
   scalar-or true g r p h s = held (s refl)
-  scalar-or false g r p h s = fitted-keeps W D first r (some (r .row) p) bs g (likes r p bs g (λ f q. like (r .row) (f .row) p q) h)
+  scalar-or false g r p h s = fitted-keeps W D (R .lead) r (some (r .row) p) (R .bases) g (likes r p (R .bases) g (λ f q. like (r .row) (f .row) p q) h)
 
   -- THEOREM: the target's base exponents are the group's
-  pub target-keeps : (g : List Factor) → All Of g → Holds (λ m. Agree W bs g m) (target bs isBase first g)
+  pub target-keeps : (g : List Factor) → All Of g → Holds (λ m. Agree W (R .bases) g m) (target R g)
   unfolding target
-  target-keeps [] h = held (agree-all W bs [] [] λ b. refl)
+  target-keeps [] h = held (agree-all W (R .bases) [] [] λ b. refl)
   target-keeps (f ∷ l) h =
       holds-bind _ (holds-eq _) λ x e.
-      scalar-or (allNought x) (f ∷ l) (greatest isBase f l) (greatest-all Of isBase f l (h .0) (h .1)) h (base-nought W bs (f ∷ l) x e .yea)
+      scalar-or (allNought x) (f ∷ l) (greatest (R .isBase) f l) (greatest-all Of (R .isBase) f l (h .0) (h .1)) h (base-nought W (R .bases) (f ∷ l) x e .yea)
 
 -- ---- in an admitted table
 
@@ -114,13 +114,10 @@ pub record Keyed (ks : List Facts) (k : List (ℕ × ℤ)) (r : ℕ) : Type 0 wh
   pub key : keyAt ks r ≡ k
 
 -- a row's first base exponent, 1 where it has none
-abbrev pub leadIn : List Facts → ℕ → Exponent
+abbrev leadIn : List Facts → ℕ → Exponent
 leadIn ks r = first (getD ks r nobody .exps)
 
 module _ (t : Rows) (ks : List Facts) (a : admit t ≡ admitted ks) where
-  abbrev pub basesOf : List (ℕ → Exponent)
-  basesOf = bases (length (slots (rowsOf t))) ks
-
   within : (r : ℕ) → r < length ks → r < length (rowsOf t)
   within r h = omega (arith, table-length (slots (rowsOf t)) (rowsOf t) ks (admit-rows t ks a))
 
@@ -148,12 +145,12 @@ module _ (t : Rows) (ks : List Facts) (a : admit t ≡ admitted ks) where
 
   -- THEOREM: a group of rows of one key keeps its base exponents
   module _ (k : List (ℕ × ℤ)) where
-    all-like : (r s : ℕ) → Keyed ks k r → Keyed ks k s → All (λ b. Likeness value (leadIn ks) b r s) basesOf
+    all-like : (r s : ℕ) → Keyed ks k r → Keyed ks k s → All (λ b. Likeness value (leadIn ks) b r s) (rulesIn t ks .bases)
     all-like r s p q = go (places 0 (length (slots (rowsOf t))))
       where
         go : (ps : List ℕ) → All (λ b. Likeness value (leadIn ks) b r s) (map (expAt ks) ps)
         go [] = tt
         go (b ∷ ps) = (rows-like r s (p .known) (q .known) (p .key ∙ sym (q .key)) b, go ps)
 
-    pub group-keeps : (isBase : ℕ → Bool) (g : List Factor) → All (λ f. Keyed ks k (f .row)) g → Holds (λ m. Agree value basesOf g m) (target basesOf isBase (leadIn ks) g)
-    group-keeps isBase g h = target-keeps value division basesOf isBase (leadIn ks) (Keyed ks k) (λ r p. some-lead r (p .known)) all-like g h
+    pub group-keeps : (g : List Factor) → All (λ f. Keyed ks k (f .row)) g → Holds (λ m. Agree value (rulesIn t ks .bases) g m) (target (rulesIn t ks) g)
+    group-keeps g h = target-keeps value division (rulesIn t ks) (Keyed ks k) (λ r p. some-lead r (p .known)) all-like g h

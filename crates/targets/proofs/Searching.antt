@@ -8,26 +8,26 @@ use lib.Dec.{eqb}
 use lib.IntN.{ℤ}
 use lib.ListN.{length, drop, getD, drop-of-length-le}
 use Rattle.exponents.specs.Outcome.{Outcome, given, refused, bind}
-use Rattle.exponents.specs.Fractions.{nought, unit, same, faulty, div?, fractionOf, worked}
+use Rattle.exponents.specs.Fractions.{nought, unit, same, faulty, div?}
+use Rattle.exponents.specs.Held.{fractionOf, worked}
 use Rattle.exponents.specs.declared.Exponent.{Exponent}
 use Rattle.exponents.specs.declared.Fraction.{Fraction}
 use Rattle.exponents.specs.declared.Fraction.the-variants.{Exact, Refused as NoFraction}
 use Rattle.exponents.proofs.Holds.{bind-given, bind-refused}
 use Rattle.exponents.proofs.Numbers.{Refuses, exact-given, refused-refuses}
-use Rattle.exponents.proofs.Summing.{bind-assoc}
+use Rattle.exponents.proofs.Following.{bind-bind}
 use Rattle.units.specs.declared.Factor.{Factor}
 use Rattle.units.specs.Lists.{noFactor}
 use Rattle.tables.specs.declared.Item.{Item}
 use Rattle.tables.specs.declared.Items.{Items}
 use Rattle.tables.specs.declared.rows.Exps.{Exps}
 use Rattle.tables.specs.Lists.{base}
-use Rattle.tables.specs.Rows.{pick, packExps, expsOf}
-use Rattle.tables.specs.Items.{View, Lent, viewBases, itemOf, packItems, packed}
-use Rattle.tables.proofs.Places.{rest}
-use Rattle.canonical.specs.Order.{atom, of}
+use Rattle.exponents.specs.Words.{pick}
+use Rattle.tables.specs.Held.{packExps, expsOf, View, viewBases, itemOf, packItems, packed, Resolved, Lends}
+use Rattle.exponents.proofs.Places.{rest}
+use Rattle.tables.specs.Order.{atom, of}
 use Rattle.canonical.specs.Canonical.{sameAll}
-use Rattle.canonical.specs.Terms.{withFactor}
-use Rattle.canonical.specs.Form.{emptyBut, formOf}
+use Rattle.canonical.specs.Held.{withFactor, emptyBut, formOf}
 use Rattle.canonical.specs.declared.form.Form.{Form}
 use Rattle.reduction.specs.Multiple.{Maybe, times, none, firstBase, fits, multipleOf, isMultiple, multipleIs}
 use Rattle.reduction.specs.declared.multiples.Multiple.the-variants.{Times, None, Refused}
@@ -113,12 +113,10 @@ module _ (a b : List Exponent) (apart : sameAll a b ≡ false) (i : ℕ) (first 
 
 -- ---- what the code has: the arrays, the list c, and its base exponents x
 pub record Had (v : View) (n : ℕ) (nums : List ℤ) (dens : List ℕ) (c : Items) (x : List Exponent) (cs : List Factor) (xs : List Exponent) : Type 0 where
-  pub lent : Lent v nums dens
-  pub list : c ≡ packItems v cs
+  pub lends : Lends v n nums dens
+  pub list : Resolved v c cs
   pub exps : x ≡ packExps xs
   pub based : base (viewBases v n) cs ≡ given xs
-  pub short : length cs ≤ 16
-  pub rows : n ≤ 16
 
 -- the factor at place i, to the exponent q
 abbrev pub single : List Factor → ℕ → Exponent → Factor
@@ -140,7 +138,7 @@ pub record Turn (v : View) (n : ℕ) (cs : List Factor) (i : ℕ) (b : Exps) : T
 module _ {v : View} {n : ℕ} {nums : List ℤ} {dens : List ℕ} {c : Items} {x : List Exponent} {cs : List Factor} {xs : List Exponent} (g : Had v n nums dens c x cs xs) where
   -- the item read, at an exponent
   pub item-is : (i : ℕ) (d it : Item) (q : Exponent) → i < length cs → it ≡ withFactor (getD (c .at) i d) (of (atom (getD (c .at) i d .factor)) q) → it ≡ itemOf v (single cs i q)
-  item-is i d it q h e = e ∙ ap (λ (y : Item). withFactor y (of (atom (y .factor)) q)) (item-at v c cs (g .list) i d noFactor h)
+  item-is i d it q h e = e ∙ ap (λ (y : Item). withFactor y (of (atom (y .factor)) q)) (item-at v c cs (g .list .is) i d noFactor h)
 
   module _ {i : ℕ} {b : Exps} (t : Turn v n cs i b) where
     -- its own base exponents
@@ -156,7 +154,7 @@ module _ {v : View} {n : ℕ} {nums : List ℤ} {dens : List ℕ} {c : Items} {x
         sym (t .so-far)
         ∙ ap (search (viewBases v n) cs) (rest cs noFactor i (t .here))
         ∙ ap (λ o. bind o next) (bind-given (λ xs. bind own (λ ys. multipleOf xs ys)) (g .based))
-        ∙ bind-assoc own (λ ys. multipleOf xs ys) next
+        ∙ bind-bind own (λ ys. multipleOf xs ys) next
 
     pub base-off : (b .refusal ≡ 0 → ⊥) → emptyBut (b .refusal) ≡ formOf v (whole v n cs)
     base-off z = let r = exps-refused own b (t .is) z in answer-refused v r (asked ∙ bind-refused _ (r .is))

@@ -1,4 +1,4 @@
--- What holds of the factors of a list, whatever exponents within the rule they have, holds of its groups, of the one factor that it is a whole power of, and of a group's target; and how many these are.
+-- What holds of the factors of a list, whatever exponents within the rule they have, holds of its groups, of the one factor that it is a whole power of, and of a group's target; how many these are; and that the last two are resolved where the list is.
 use mathlib.Core.Path.{_≡_, refl}
 use mathlib.Core.Bool.{Bool, true, false, _||_}
 use mathlib.Core.List.{List, [], _∷_}
@@ -10,15 +10,19 @@ use lib.ListN.{length, getD}
 use Rattle.exponents.specs.Outcome.{Outcome, given, each}
 use Rattle.exponents.specs.Fractions.{nought, unit, same, faulty, mul?, div?}
 use Rattle.exponents.specs.declared.Exponent.{Exponent}
-use Rattle.exponents.proofs.Holds.{Holds, held, holds-by, holds-any, holds-imp, holds-map, holds-bind}
+use Rattle.exponents.proofs.Holds.{holds-all, Holds, held, take-out, holds-by, holds-any, holds-imp, holds-map, holds-bind}
 use Rattle.exponents.proofs.Sound.{sum-sound, nought-sound}
 use Rattle.units.specs.declared.Factor.{Factor}
+use Rattle.units.specs.Lists.{factorFault}
 use Rattle.tables.specs.Lists.{base}
-use Rattle.tables.specs.Rows.{pick}
-use Rattle.tables.proofs.Places.{All}
-use Rattle.canonical.specs.Order.{atom, of}
+use Rattle.exponents.specs.Words.{pick, All}
+use Rattle.tables.specs.Order.{atom, of}
+use Rattle.tables.specs.Rules.{Rules}
+use Rattle.tables.specs.Held.{View, Stands, packItems, Resolved}
+use Rattle.tables.specs.declared.Items.{Items}
 use Rattle.canonical.specs.Canonical.{sameAll, allNought}
-use Rattle.canonical.proofs.Keeping.{pick-is}
+use Rattle.exponents.proofs.Words.{pick-is}
+use Rattle.canonical.proofs.Keeping.{each-faultless, none-faulty, Kept, kept-with}
 use Rattle.reduction.specs.Multiple.{Maybe, times, none, firstBase, fits, multipleOf, isMultiple}
 use Rattle.reduction.proofs.Fitting.{quotient-sound}
 use Rattle.targets.specs.Single.{wholly, search, single}
@@ -33,7 +37,7 @@ Fine none = Unit {0}
 
 fits-fine : (xs ys : List Exponent) (q : Exponent) → faulty q ≡ false → Holds Fine (fits xs ys q)
 unfolding fits
-fits-fine xs ys q h = holds-map _ (holds-any (each (λ y. mul? y q) ys)) λ zs _. pick-is Fine (sameAll zs xs) {a = times q} {b = none} h tt
+fits-fine xs ys q h = holds-all _ (each (λ y. mul? y q) ys) λ zs. pick-is Fine (sameAll zs xs) {a = times q} {b = none} h tt
 
 multiple-fine : (xs ys : List Exponent) → Holds Fine (multipleOf xs ys)
 unfolding multipleOf
@@ -99,14 +103,28 @@ module _ (Q : Factor → Type 0) where
           go false e = held (none-within (length c))
 
     -- a group's target
-    module _ (bs : List (ℕ → Exponent)) (isBase : ℕ → Bool) (first : ℕ → Exponent) where
-      fitted-within : (r : Factor) (l : List Factor) → Q r → Holds (Within 1) (fitted first r l)
+    module _ {A : Type 0} (R : Rules A) where
+      fitted-within : (r : Factor) (l : List Factor) → Q r → Holds (Within 1) (fitted (R .lead) r l)
       unfolding fitted summed
       fitted-within r l p = holds-map _ (sum-sound _ nought l nought-sound) λ e s. one-within r e p s
 
-      pub target-within : (g : List Factor) → All Q g → Holds (Within 1) (target bs isBase first g)
+      pub target-within : (g : List Factor) → All Q g → Holds (Within 1) (target R g)
       unfolding target
       target-within [] h = held (none-within 1)
       target-within (f ∷ l) h =
-          holds-bind _ (holds-any (base bs (f ∷ l))) λ x _. pick-is (Holds (Within 1)) (allNought x) (held (none-within 1))
-          (fitted-within (greatest isBase f l) (f ∷ l) (greatest-all Q isBase f l (h .0) (h .1)))
+          holds-bind _ (holds-any (base (R .bases) (f ∷ l))) λ x _. pick-is (Holds (Within 1)) (allNought x) (held (none-within 1))
+          (fitted-within (greatest (R .isBase) f l) (f ∷ l) (greatest-all Q (R .isBase) f l (h .0) (h .1)))
+
+-- ---- so they are resolved where the list is
+module _ {v : View} {l : Items} {fs : List Factor} (r : Resolved v l fs) where
+  resolved : {o : Outcome (List Factor)} → ((Q : Factor → Type 0) → ((f : Factor) (e : Exponent) → Q f → faulty e ≡ false → Q (of (atom f) e)) → All Q fs → Holds (Within Q 1) o) → (m : List Factor) → o ≡ given m → (x : Items) → x ≡ packItems v m → Resolved v x m
+  resolved within m e x is =
+      let k = take-out (within Kept kept-with (each-faultless factorFault fs (r .shaped))) e in
+      let s = take-out (within (λ f. Stands (f .row) (v .among)) (λ f e p q. p) (r .named)) e in
+      record { is = is; short = omega (arith, k .0); shaped = none-faulty factorFault m (k .1); named = s .1; placed = r .placed }
+
+  pub search-resolved : (bs : List (ℕ → Exponent)) (m : List Factor) → search bs fs fs ≡ given m → (x : Items) → x ≡ packItems v m → Resolved v x m
+  search-resolved bs = resolved (λ Q stays h. search-within Q stays bs fs fs h)
+
+  pub target-resolved : {A : Type 0} (R : Rules A) (m : List Factor) → target R fs ≡ given m → (x : Items) → x ≡ packItems v m → Resolved v x m
+  target-resolved R = resolved (λ Q stays h. target-within Q stays R fs h)

@@ -1,14 +1,15 @@
 -- Factors grouped by key, and a group's target (01, "Simplification", third step).
-use mathlib.Core.Bool.{Bool, true, false, not, _&&_, _||_}
+use mathlib.Core.Bool.{Bool, not, _&&_, _||_}
 use mathlib.Core.List.{List, [], _∷_}
 use Prim.Native.Nat.{ℕ}
-use Rattle.exponents.specs.Outcome.{Outcome, given, map, bind}
-use Rattle.exponents.specs.Fractions.{nought, less, add?, mul?, div?, sum?}
+use Rattle.exponents.specs.Words.{pick}
+use Rattle.exponents.specs.Outcome.{Outcome, given, apply, bind}
+use Rattle.exponents.specs.Fractions.{nought, less, mul?, div?, sum?}
 use Rattle.exponents.specs.declared.Exponent.{Exponent}
 use Rattle.units.specs.declared.Factor.{Factor}
 use Rattle.tables.specs.Lists.{base}
-use Rattle.tables.specs.Rows.{pick}
-use Rattle.canonical.specs.Order.{atom, of}
+use Rattle.tables.specs.Rules.{Rules}
+use Rattle.tables.specs.Order.{atom, of}
 use Rattle.canonical.specs.Canonical.{allNought}
 
 -- ---- groups: `alike` tells whether two rows have one key
@@ -25,16 +26,6 @@ module _ (alike : ℕ → ℕ → Bool) where
   groups [] = []
   groups (f ∷ l) = onto f (groups l)
 
-  -- as code finds them: what stands behind f in its group ..
-  unfoldable pub following : Factor → List Factor → List Factor
-  following f [] = []
-  following f (g ∷ l) = pick (alike (f .row) (g .row)) (g ∷ following g l) []
-
-  -- .. and the first group of a list
-  unfoldable pub leading : List Factor → List Factor
-  leading [] = []
-  leading (f ∷ l) = f ∷ following f l
-
 -- ---- the representative: the greatest by base before derived, then exponent, the last on a tie
 
 module _ (isBase : ℕ → Bool) where
@@ -49,16 +40,12 @@ module _ (isBase : ℕ → Bool) where
   greatest f [] = f
   greatest f (g ∷ l) = greatest (pick (above f g) f g) l
 
--- ---- the target: bs are the base rows' exponents, `first` has a row's first base exponent, 1 where it has none
+-- ---- the target: `first` has a row's first base exponent, 1 where it has none
 
 module _ (first : ℕ → Exponent) where
   -- what a factor has in a representative whose first base exponent is d: product tested, then quotient
   unfoldable pub share : Exponent → Factor → Outcome Exponent
   share d f = bind (mul? (f .exponent) (first (f .row))) (λ p. div? p d)
-
-  -- that added to s: the partial sum tested
-  unfoldable pub withShare : Exponent → Exponent → Factor → Outcome Exponent
-  withShare d s f = bind (share d f) (λ t. add? s t)
 
   -- the summed exponents
   unfoldable pub summed : Exponent → List Factor → Outcome Exponent
@@ -66,10 +53,9 @@ module _ (first : ℕ → Exponent) where
 
   -- the representative r with them
   unfoldable pub fitted : Factor → List Factor → Outcome (List Factor)
-  fitted r l = map (λ e. of (atom r) e ∷ []) (summed (first (r .row)) l)
+  fitted r l = apply (λ e. of (atom r) e ∷ []) (summed (first (r .row)) l)
 
-module _ (bs : List (ℕ → Exponent)) (isBase : ℕ → Bool) (first : ℕ → Exponent) where
-  -- a group with scalar base becomes scalar
-  unfoldable pub target : List Factor → Outcome (List Factor)
-  target [] = given []
-  target (f ∷ l) = bind (base bs (f ∷ l)) (λ x. pick (allNought x) (given []) (fitted first (greatest isBase f l) (f ∷ l)))
+-- a group with scalar base becomes scalar
+unfoldable pub target : {A : Type 0} → Rules A → List Factor → Outcome (List Factor)
+target R [] = given []
+target R (f ∷ l) = bind (base (R .bases) (f ∷ l)) (λ x. pick (allNought x) (given []) (fitted (R .lead) (greatest (R .isBase) f l) (f ∷ l)))

@@ -1,3 +1,3 @@
 pub mod Single
 pub mod Groups
-pub mod Firsts
+pub mod Held

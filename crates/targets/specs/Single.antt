@@ -3,12 +3,12 @@ use mathlib.Core.List.{List, [], _∷_}
 use Prim.Native.Nat.{ℕ}
 use lib.Dec.{eqb, ltb}
 use lib.ListN.{length}
+use Rattle.exponents.specs.Words.{pick}
 use Rattle.exponents.specs.Outcome.{Outcome, given, bind}
 use Rattle.exponents.specs.Fractions.{unit}
 use Rattle.exponents.specs.declared.Exponent.{Exponent}
 use Rattle.units.specs.declared.Factor.{Factor}
-use Rattle.tables.specs.Rows.{pick}
-use Rattle.canonical.specs.Order.{atom, of}
+use Rattle.tables.specs.Order.{atom, of}
 use Rattle.reduction.specs.Multiple.{Maybe, times, none, isMultiple}
 
 -- the factor to a whole multiple; else what follows

@@ -1,19 +1,15 @@
 // Factors grouped by key, and a group's target (01, "Simplification", third step).
 ghost use mathlib.Core.Path.{_≡_};
-ghost use mathlib.Core.Bool.{false};
 ghost use mathlib.Core.List.{List, _∷_, _++_};
-ghost use Prim.Native.Nat.{_+_, _≤_, _<_};
-ghost use lib.Dec.{eqb};
+ghost use Prim.Native.Nat.{ℕ, _+_, _≤_, _<_};
 ghost use lib.ListN.{length, drop, getD};
-ghost use Rattle.exponents.specs.Fractions.{fractionOf};
+ghost use Rattle.exponents.specs.Held.{fractionOf};
 ghost use Rattle.units.specs.declared.Factor.{Factor as Factorᵛ};
-ghost use Rattle.units.specs.Lists.{some, factorFault};
-ghost use Rattle.tables.specs.Key.{first};
-ghost use Rattle.tables.specs.Items.{View, Lent, viewBases, itemOf, packItems};
-ghost use Rattle.canonical.specs.Form.{formOf};
-ghost use Rattle.targets.specs.Firsts.{Short, firstTold};
+ghost use Rattle.tables.specs.Held.{View, itemOf, packItems, Resolved, Lends, rulesBy};
+ghost use Rattle.canonical.specs.Held.{formOf};
+ghost use Rattle.targets.specs.Held.{firstTold, leading, withShare};
 ghost use Rattle.targets.specs.Groups as spec;
-ghost use Rattle.targets.specs.Groups.{leading, greatest};
+ghost use Rattle.targets.specs.Groups.{greatest};
 use canonical::form;
 use canonical::form::Form;
 use exponents::Exponent;
@@ -27,7 +23,7 @@ use tables::Items;
 // The group that starts at place i: rows of one class stand together.
 pub fn group_at(c: Items, i: usize) -> Items
     requires { ⌜ i < 16 ⌝ }
-    ensures { λ r. ⌜ ((0 < r .len) × (r .len ≤ 16)) × ((v : View) (fs : List Factorᵛ) → c ≡ packItems v fs → length fs ≤ 16 → i < length fs → r ≡ packItems v (leading (λ a b. eqb (v .class a) (v .class b)) (drop i fs))) ⌝ }
+    ensures { λ r. ⌜ ((0 < r .len) × (r .len ≤ 16)) × ((v : View) (fs : List Factorᵛ) → Resolved v c fs → i < length fs → r ≡ packItems v (leading (v .alike) (drop i fs))) ⌝ }
 {
     let n = bases::capped(c.len);
     let x = c.at[i];
@@ -49,7 +45,7 @@ pub fn group_at(c: Items, i: usize) -> Items
 
 // The items of l and then m, as far as there is room.
 pub fn joined(l: Items, m: Items) -> Items
-    ensures { λ r. ⌜ ((v : View) (fs gs : List Factorᵛ) → l ≡ packItems v fs → m ≡ packItems v gs → length fs + length gs ≤ 16 → r ≡ packItems v (fs ++ gs)) ⌝ }
+    ensures { λ r. ⌜ ((v : View) (fs gs : List Factorᵛ) → Resolved v l fs → Resolved v m gs → length fs + length gs ≤ 16 → r ≡ packItems v (fs ++ gs)) ⌝ }
 {
     let n = bases::capped(m.len);
     let mut o = l;
@@ -116,7 +112,7 @@ fn first_exponent(nums: &[i32], dens: &[u32], row: u32) -> Exponent
 
 // acc and what an item has in a representative whose first base exponent is d: product tested, then quotient, then the sum.
 fn with_share(acc: Exponent, it: Item, d: Exponent, nums: &[i32], dens: &[u32]) -> Fraction
-    ensures { λ r. ⌜ ((v : View) → Lent v (now (nums .entry)) (now (dens .entry)) → Short v → (f : Factorᵛ) → it ≡ itemOf v f → r ≡ fractionOf (spec.withShare (λ a. first (v .exps a)) d acc f)) ⌝ }
+    ensures { λ r. ⌜ ((v : View) (n : ℕ) (f : Factorᵛ) → Lends v n (now (nums .entry)) (now (dens .entry)) → it ≡ itemOf v f → r ≡ fractionOf (withShare (rulesBy v n .lead) d acc f)) ⌝ }
 {
     let f = it.factor;
     let e = f.exponent;
@@ -135,7 +131,7 @@ fn with_share(acc: Exponent, it: Item, d: Exponent, nums: &[i32], dens: &[u32]) 
 
 // The summed exponents, from 0.
 fn summed(l: Items, d: Exponent, nums: &[i32], dens: &[u32]) -> Fraction
-    ensures { λ r. ⌜ ((v : View) → Lent v (now (nums .entry)) (now (dens .entry)) → Short v → (fs : List Factorᵛ) → l ≡ packItems v fs → length fs ≤ 16 → r ≡ fractionOf (spec.summed (λ a. first (v .exps a)) d fs)) ⌝ }
+    ensures { λ r. ⌜ ((v : View) (n : ℕ) (fs : List Factorᵛ) → Lends v n (now (nums .entry)) (now (dens .entry)) → Resolved v l fs → r ≡ fractionOf (spec.summed (rulesBy v n .lead) d fs)) ⌝ }
 {
     let n = bases::capped(l.len);
     let mut acc = Exponent { num: 0, den: 1 };
@@ -157,7 +153,7 @@ fn summed(l: Items, d: Exponent, nums: &[i32], dens: &[u32]) -> Fraction
 
 // The target of a group, where there are n base rows: the scalar, or its representative with the summed exponents.
 pub fn target_of(l: Items, n: usize, nums: &[i32], dens: &[u32]) -> Form
-    ensures { λ r. ⌜ ((v : View) → Lent v (now (nums .entry)) (now (dens .entry)) → Short v → (fs : List Factorᵛ) → l ≡ packItems v fs → length fs ≤ 16 → n ≤ 16 → some factorFault fs ≡ false → r ≡ formOf v (spec.target (viewBases v n) (v .base) (λ a. first (v .exps a)) fs)) ⌝ }
+    ensures { λ r. ⌜ ((v : View) (fs : List Factorᵛ) → Lends v n (now (nums .entry)) (now (dens .entry)) → Resolved v l fs → r ≡ formOf v (spec.target (rulesBy v n) fs)) ⌝ }
 {
     let x = bases::base_of(l, n, nums, dens);
     if x.refusal != 0 {

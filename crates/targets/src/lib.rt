@@ -1,8 +1,8 @@
 // What simplification converts to (01, "Simplification"): one factor to a whole exponent, or the targets of groups of factors.
 // `single`: `first_multiple`. `groups`: `group_at`, `target_of`, `joined`. None asks more of its caller than a place within a list.
 ghost use mathlib.Core.Path.{_≡_};
-ghost use Rattle.canonical.specs.Order.{atom, of};
-ghost use Rattle.canonical.specs.Terms.{withFactor};
+ghost use Rattle.tables.specs.Order.{atom, of};
+ghost use Rattle.canonical.specs.Held.{withFactor};
 use exponents::Exponent;
 use tables::Item;
 use units::Factor;

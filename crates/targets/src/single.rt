@@ -1,15 +1,12 @@
 // One factor to a whole exponent (01, "Simplification", second step).
 ghost use mathlib.Core.Path.{_≡_};
 ghost use mathlib.Core.List.{List, [], _∷_};
-ghost use Prim.Native.Nat.{_≤_};
-ghost use lib.ListN.{length};
 ghost use Rattle.exponents.specs.Outcome.{given};
 ghost use Rattle.exponents.specs.declared.Exponent.{Exponent as Exponentᵛ};
 ghost use Rattle.units.specs.declared.Factor.{Factor as Factorᵛ};
 ghost use Rattle.tables.specs.Lists.{base};
-ghost use Rattle.tables.specs.Rows.{packExps};
-ghost use Rattle.tables.specs.Items.{View, Lent, viewBases, packItems, packed};
-ghost use Rattle.canonical.specs.Form.{formOf};
+ghost use Rattle.tables.specs.Held.{packExps, View, viewBases, packed, Resolved, Lends};
+ghost use Rattle.canonical.specs.Held.{formOf};
 ghost use Rattle.targets.specs.Single.{search};
 use canonical::form;
 use canonical::form::Form;
@@ -33,7 +30,7 @@ pub fn alone(it: Item) -> Items
 // The first factor of the canonical list c that c is a whole power of, raised to it; the empty list where there is none. c has the
 // base exponents x at the first n base rows. RANGE beats none: every product of a factor is worked out.
 pub fn first_multiple(c: Items, x: [Exponent; 16], n: usize, nums: &[i32], dens: &[u32]) -> Form
-    ensures { λ r. ⌜ ((v : View) → Lent v (now (nums .entry)) (now (dens .entry)) → (cs : List Factorᵛ) (xs : List Exponentᵛ) → c ≡ packItems v cs → x ≡ packExps xs → base (viewBases v n) cs ≡ given xs → length cs ≤ 16 → n ≤ 16 → r ≡ formOf v (search (viewBases v n) cs cs)) ⌝ }
+    ensures { λ r. ⌜ ((v : View) (cs : List Factorᵛ) (xs : List Exponentᵛ) → Lends v n (now (nums .entry)) (now (dens .entry)) → Resolved v c cs → x ≡ packExps xs → base (viewBases v n) cs ≡ given xs → r ≡ formOf v (search (viewBases v n) cs cs)) ⌝ }
 {
     let m = bases::capped(c.len);
     let k = multiples::first_base(x);

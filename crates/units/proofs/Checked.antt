@@ -7,7 +7,7 @@ use native.Mathlib.Omega.{arith}
 use lib.Dec.{ltb}
 use lib.ListN.{length}
 use borrow.Author.Tests.{lt-ltb, le-ltb, ltb-false}
-use Rattle.exponents.specs.Outcome.{Refusal, SHAPE, UNKNOWN, number, Outcome, given, unless, map, bind, refusalOf}
+use Rattle.exponents.specs.Outcome.{Refusal, SHAPE, UNKNOWN, number, Outcome, given, unless, apply, bind, refusalOf}
 use Rattle.exponents.proofs.Holds.{bind-given, bind-refused}
 use Rattle.exponents.proofs.InRange.{or-left, or-right}
 use Rattle.exponents.proofs.Numbers.{refuses, unless-passed, refusal-map}
@@ -81,7 +81,7 @@ module _ (rows : ℕ) (a b : Factors) where
 
     pub both-pass : both rows a b ≡ given (listOf a, listOf b)
     unfolding both
-    both-pass = bind-given _ (passes rows a first-passed) ∙ ap (map _) (passes rows b second-passed)
+    both-pass = bind-given _ (passes rows a first-passed) ∙ ap (apply _) (passes rows b second-passed)
 
 -- ---- a call that goes on after an outcome o, of which it has the number n
 module _ {A : Type 0} (o : Outcome A) (f : A → Outcome (List Factor)) where

@@ -5,9 +5,8 @@ use Prim.Native.Nat.{ℕ}
 use lib.IntN.{ℤ, pos, negsuc}
 use lib.ListN.{replicate}
 use lib.Ieee.{binary64, toBits, ofBits, mul, div}
-use Rattle.exponents.specs.Outcome.{Outcome, given, refused, SHAPE, UNKNOWN, ROOM, RANGE, each}
-use Rattle.exponents.specs.Outcome as outcome
-use Rattle.exponents.specs.Fractions.{worked}
+use Rattle.exponents.specs.Outcome.{Outcome, given, refused, SHAPE, UNKNOWN, ROOM, RANGE, each, apply}
+use Rattle.exponents.specs.Held.{worked}
 use Rattle.floats.specs.Power.{power, raise, bitsOf}
 use Rattle.units.specs.declared.Prefix.{Prefix}
 use Rattle.units.specs.declared.Prefix.the-variants.{Metric, Binary}
@@ -18,7 +17,7 @@ use Rattle.units.specs.Lists.{pack, some, factorFault, checked, both, jo
 
 -- ---- prefixes, with the bits of their factors
 abbrev bitsAt : Prefix → Outcome ℕ
-bitsAt p = outcome.map (toBits binary64) (prefixFactor p)
+bitsAt p = apply (toBits binary64) (prefixFactor p)
 
 prefixes-known :
     map bitsAt (Metric (pos 0) ∷ Binary (pos 0) ∷ Metric (pos 3) ∷ Binary (pos 10) ∷ Metric (negsuc 23) ∷ Metric (pos 1100) ∷ Metric (negsuc 1099) ∷ Metric (pos 1101) ∷ Binary (negsuc 1100) ∷ [])

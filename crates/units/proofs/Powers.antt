@@ -11,7 +11,8 @@ use Rattle.exponents.proofs.Traversal as each
 use Rattle.units.specs.declared.Factor.{Factor}
 use Rattle.units.specs.declared.Factors.{Factors}
 use Rattle.units.specs.declared.lists.Raised.the-variants.{Power, Refused}
-use Rattle.units.specs.Lists.{listOf, pack, refusedBy, madeOf, raisedOf}
+use Rattle.units.specs.Lists.{listOf, pack, refusedBy, madeOf}
+use Rattle.units.specs.Held.{raisedOf}
 use Rattle.units.proofs.Laws.{len-pack}
 
 -- the factors before i are worked out and stand in o

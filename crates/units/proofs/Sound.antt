@@ -2,7 +2,8 @@
 use mathlib.Core.Path.{_≡_, sym, ap}
 use mathlib.Core.Bool.{false}
 use Prim.Native.Nat.{ℕ}
-use Rattle.exponents.specs.Fractions.{faulty, neg?, mul?, fractionOf}
+use Rattle.exponents.specs.Fractions.{faulty, mul?}
+use Rattle.exponents.specs.Held.{neg?, fractionOf}
 use Rattle.exponents.specs.declared.Exponent.{Exponent}
 use Rattle.exponents.specs.declared.Fraction.the-variants.{Exact, Refused}
 use Rattle.exponents.proofs.InRange.{or-right}
@@ -10,7 +11,8 @@ use Rattle.exponents.proofs.Numbers.{exact-given, refused-refuses, negated-is, 
 use Rattle.units.specs.declared.Factor.{Factor}
 use Rattle.units.specs.declared.lists.Raised.the-variants.{Power, Refused as NotRaised}
 use Rattle.units.specs.Prefixes.{prefixFault}
-use Rattle.units.specs.Lists.{factorFault, withExponent, inverted, raised, raisedOf}
+use Rattle.units.specs.Lists.{factorFault, withExponent, inverted, raised}
+use Rattle.units.specs.Held.{raisedOf}
 
 module _ (f : Factor) (h : factorFault f ≡ false) where
   pub exponent-sound : faulty (f .exponent) ≡ false

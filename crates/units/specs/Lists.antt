@@ -5,8 +5,7 @@ use Prim.Native.Nat.{ℕ, _+_, _-_}
 use lib.Dec.{ltb}
 use lib.IntN.{pos}
 use lib.ListN.{length, take, replicate}
-use Rattle.exponents.specs.Outcome.{Outcome, given, refused, SHAPE, UNKNOWN, ROOM, number, unless, bind, each}
-use Rattle.exponents.specs.Outcome as outcome
+use Rattle.exponents.specs.Outcome.{Outcome, given, refused, SHAPE, UNKNOWN, ROOM, number, unless, bind, each, apply}
 use Rattle.exponents.specs.Fractions.{neg, mul?, faulty}
 use Rattle.exponents.specs.declared.Exponent.{Exponent}
 use Rattle.units.specs.Prefixes.{prefixFault}
@@ -14,8 +13,6 @@ use Rattle.units.specs.declared.Prefix.the-variants.{Metric}
 use Rattle.units.specs.declared.Factor.{Factor}
 use Rattle.units.specs.declared.Factors.{Factors}
 use Rattle.units.specs.declared.lists.Made.{Made}
-use Rattle.units.specs.declared.lists.Raised.{Raised}
-use Rattle.units.specs.declared.lists.Raised.the-variants.{Power, Refused}
 
 -- ---- a value and its list
 
@@ -64,7 +61,7 @@ checked rows l =
 
 -- two lists, in argument order
 unfoldable pub both : ℕ → Factors → Factors → Outcome (List Factor × List Factor)
-both rows a b = bind (checked rows a) (λ fs. outcome.map (λ gs. (fs, gs)) (checked rows b))
+both rows a b = bind (checked rows a) (λ fs. apply (λ gs. (fs, gs)) (checked rows b))
 
 -- ---- products, quotients, powers
 
@@ -82,11 +79,7 @@ inverted f = withExponent f (neg (f .exponent))
 
 -- the exponent multiplied
 unfoldable pub raised : Exponent → Factor → Outcome Factor
-raised e f = outcome.map (withExponent f) (mul? (f .exponent) e)
-
-abbrev pub raisedOf : Outcome Factor → Raised
-raisedOf (given f) = Power f
-raisedOf (refused r) = Refused (number r)
+raised e f = apply (withExponent f) (mul? (f .exponent) e)
 
 -- ---- the calls, on any lists, with so many rows in the table
 unfoldable pub product : ℕ → Factors → Factors → Outcome (List Factor)

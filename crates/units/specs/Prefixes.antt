@@ -1,6 +1,5 @@
 -- Prefixes: their rule and their factor (01, "Records and sizes", "Powers and scales").
 use mathlib.Core.Bool.{Bool, _||_}
-use Prim.Native.Nat.{ℕ}
 use lib.IntN.{ℤ, pos, negsuc}
 use lib.Signed.{ltZ}
 use lib.Ieee.{Float, binary64, ofBits}
@@ -31,8 +30,3 @@ prefixFactor p = unless (prefixFault p) SHAPE (given (factorOf p))
 abbrev pub prefixFactorOf : Outcome Float → PrefixFactor
 prefixFactorOf (given v) = Value v
 prefixFactorOf (refused r) = Refused (number r)
-
--- 01's number and value in each case: value bits zero beside a refusal
-abbrev pub factorTold : PrefixFactor → ℕ × Float
-factorTold (Value v) = (0, v)
-factorTold (Refused n) = (n, ofBits binary64 0)

@@ -15,6 +15,7 @@ use exponents::Fraction;
 use exponents::refusals::ROOM;
 use exponents::refusals::SHAPE;
 use exponents::refusals::UNKNOWN;
+ghost use Rattle.units.specs.Held.{raisedOf};
 
 // A list, or the empty list beside the number of the refusal.
 pub struct Made {
@@ -227,7 +228,7 @@ pub enum Raised {
 }
 
 fn power_of(e: Exponent, f: Factor) -> Raised
-    ensures { λ r. ⌜ r ≡ spec.raisedOf (spec.raised e f) ⌝ }
+    ensures { λ r. ⌜ r ≡ raisedOf (spec.raised e f) ⌝ }
 {
     let x = f.exponent;
     let y = exponents::product(x, e);

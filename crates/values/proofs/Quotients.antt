@@ -4,7 +4,7 @@ use mathlib.Core.Bool.{Bool, true, false}
 use mathlib.Core.List.{List, map as along}
 use Prim.Native.Nat.{ℕ}
 use lib.Ieee.{binary64, div}
-use Rattle.exponents.specs.Outcome.{Outcome, DIVZERO, unless, map, bind, refusalOf}
+use Rattle.exponents.specs.Outcome.{Outcome, DIVZERO, unless, apply, bind, refusalOf}
 use Rattle.exponents.proofs.Holds.{bind-given}
 use Rattle.exponents.proofs.Numbers.{Refuses, refuses}
 use Rattle.floats.specs.Values.{isZero}
@@ -14,17 +14,16 @@ use Rattle.units.specs.declared.Rows.{Rows}
 use Rattle.units.specs.Lists.{both, joined, inverted, quotient}
 use Rattle.units.proofs.Checked.{both-pass}
 use Rattle.tables.specs.declared.Admitted.{Admitted}
-use Rattle.tables.specs.Rows.{admit}
-use Rattle.lists.specs.Opening.{known, baseRows}
-use Rattle.lists.proofs.Checks.{Admits}
+use Rattle.tables.specs.Rows.{admit, known, baseRows}
+use Rattle.lists.proofs.Checks.{Accepted}
 use Rattle.lists.proofs.Ends.{bind-refuses}
 use Rattle.values.specs.Quantities.{fresh}
 use Rattle.values.specs.Calls.{checkedDiv}
 
-module _ (t : Rows) (q p : Quantity) (x : Admitted) (k : Admits (baseRows t) (admit t) x) where
+module _ (t : Rows) (q p : Quantity) (x : Admitted) (k : Accepted (baseRows t) (admit t) x) where
   -- what is done of a list, where the divisor may be zero
   abbrev unlessZero : Bool → Outcome (List Factor) → Outcome Quantity
-  unlessZero z o = unless z DIVZERO (map (fresh (div binary64 (q .value) (p .value))) o)
+  unlessZero z o = unless z DIVZERO (apply (fresh (div binary64 (q .value) (p .value))) o)
 
   abbrev after : List Factor × List Factor → Outcome Quantity
   after l = unlessZero (isZero (p .value)) (joined (l .0) (along inverted (l .1)))
@@ -45,6 +44,6 @@ module _ (t : Rows) (q p : Quantity) (x : Admitted) (k : Admits (baseRows t) (ad
     unfolding unless
     by-zero z = record { why = DIVZERO; is = value-next ∙ ap (λ b. unlessZero b (quotient (x .len) (q .unit) (p .unit))) z; numbered = refl }
 
-    pub by-number : isZero (p .value) ≡ false → map (fresh (div binary64 (q .value) (p .value))) (quotient (x .len) (q .unit) (p .unit)) ≡ checkedDiv t q p
+    pub by-number : isZero (p .value) ≡ false → apply (fresh (div binary64 (q .value) (p .value))) (quotient (x .len) (q .unit) (p .unit)) ≡ checkedDiv t q p
     unfolding unless
     by-number z = sym (value-next ∙ ap (λ b. unlessZero b (quotient (x .len) (q .unit) (p .unit))) z)

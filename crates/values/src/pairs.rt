@@ -1,9 +1,8 @@
 // Product and quotient of quantities (01, "Conversion, sums, comparison", "The refusals", last sentence of "Canonical form"). `_over`: over a table that is checked.
 ghost use mathlib.Core.Path.{_≡_};
 ghost use Rattle.units.specs.declared.Rows.{Rows as Rowsᵛ};
-ghost use Rattle.tables.specs.Rows.{admit};
-ghost use Rattle.tables.specs.Pages.{admittedOf};
-ghost use Rattle.lists.specs.Opening.{baseRows};
+ghost use Rattle.tables.specs.Rows.{admit, baseRows};
+ghost use Rattle.tables.specs.Held.{admittedOf};
 ghost use Rattle.values.specs.Quantities.{answeredOf};
 ghost use Rattle.values.specs.Calls as spec;
 use super::answers;

@@ -3,9 +3,9 @@ ghost use mathlib.Core.Path.{_≡_};
 ghost use mathlib.Core.List.{[]};
 ghost use Rattle.units.specs.declared.Rows.{Rows as Rowsᵛ};
 ghost use Rattle.units.specs.Lists.{pack, madeOf};
-ghost use Rattle.tables.specs.Rows.{admit};
-ghost use Rattle.tables.specs.Pages.{admittedOf};
-ghost use Rattle.lists.specs.Opening.{Tells, baseRows, opening, openedOf};
+ghost use Rattle.tables.specs.Rows.{admit, baseRows};
+ghost use Rattle.tables.specs.Held.{admittedOf};
+ghost use Rattle.lists.specs.Held.{Opens};
 ghost use Rattle.values.specs.Quantities.{answeredOf};
 ghost use Rattle.values.specs.Calls as spec;
 use super::answers;
@@ -101,7 +101,7 @@ pub fn no_simplify(rows: Rows, q: Quantity) -> Answer
 }
 
 pub fn reduce_over(o: Opened, q: Quantity, nums: &[i32], dens: &[u32]) -> Answer
-    ensures { λ r. ⌜ ((rows : Rowsᵛ) → o ≡ openedOf (baseRows rows) (opening rows (q .unit) (pack [])) → Tells rows (now (nums .entry)) (now (dens .entry)) → r ≡ answeredOf (spec.reduce rows q)) ⌝ }
+    ensures { λ r. ⌜ ((rows : Rowsᵛ) → Opens rows (q .unit) (pack []) o (now (nums .entry)) (now (dens .entry)) → r ≡ answeredOf (spec.reduce rows q)) ⌝ }
 {
     let x = lists::reductions::reduce_list_over(o, nums, dens);
     if x.refusal != 0 {

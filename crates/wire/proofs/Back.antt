@@ -15,8 +15,7 @@ use Rattle.units.specs.declared.Quantity.{Quantity}
 use Rattle.units.specs.declared.Candidate.{Candidate}
 use Rattle.units.specs.Lists.{noFactor, pack}
 use Rattle.lent.specs.Lent.{noRow, noCandidate}
-use Rattle.tables.specs.Rows.{pick}
-use Rattle.tables.proofs.Places.{All}
+use Rattle.exponents.specs.Words.{pick, All}
 use Rattle.wire.specs.Bytes.{runAt, runBytes, padTo, countOf}
 use Rattle.wire.specs.Records.{exponentBytes, prefixBytes, listBytes, quantityBytes, rowBytes, candidateBytes}
 use Rattle.wire.specs.Arguments.{prefixFrom, exponentFrom, listFrom, quantityFrom, manyIn, tableFrom, candidatesFrom}

@@ -6,7 +6,7 @@ use native.Mathlib.Nat.{add-assoc, mul-le-mul-right}
 use native.Mathlib.Omega.{arith}
 use borrow.Author.Tests.{le-leb}
 use lib.ListN.{length, replicate, length-append, length-replicate}
-use Rattle.tables.proofs.Places.{All}
+use Rattle.exponents.specs.Words.{All}
 use Rattle.wire.specs.Bytes.{runAt, runBytes, padTo, countOf}
 use Rattle.wire.proofs.Runs.{count-room}
 

@@ -4,6 +4,4 @@ pub mod Stored
 pub mod Form
 pub mod Round
 pub mod Back
-pub mod Held
 pub mod Unread
-pub mod Faults

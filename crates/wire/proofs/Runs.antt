@@ -10,7 +10,7 @@ use borrow.Author.Tests.{leb-true}
 use lib.Dec.{leb, eqb}
 use lib.ListN.{length, set, length-append, length-replicate}
 use lib.Seq.{set-append-seam}
-use Rattle.tables.specs.Rows.{pick}
+use Rattle.exponents.specs.Words.{pick}
 use Rattle.wire.specs.Bytes.{runAt, padTo, countOf}
 use Rattle.wire.specs.Arguments.{manyIn}
 

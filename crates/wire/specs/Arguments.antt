@@ -14,7 +14,7 @@ use Rattle.units.specs.declared.Quantity.{Quantity}
 use Rattle.units.specs.declared.Candidates.{Candidates}
 use Rattle.units.specs.Lists.{noFactor}
 use Rattle.lent.specs.Lent.{noRow, noCandidate}
-use Rattle.tables.specs.Rows.{pick}
+use Rattle.exponents.specs.Words.{pick}
 use Rattle.wire.specs.Bytes.{runAt, padTo, countOf}
 use Rattle.wire.specs.Records.{exponentAt, badPrefix, prefixAt, listAt, quantityAt, rowAt, candidateAt}
 

@@ -3,7 +3,7 @@ use mathlib.Core.List.{List, [], _∷_, _++_}
 use Prim.Native.Nat.{ℕ, zero, suc, _+_, _-_, _*_, _/_, _%_}
 use lib.Dec.{leb}
 use lib.ListN.{length, getD, replicate}
-use Rattle.tables.specs.Rows.{pick}
+use Rattle.exponents.specs.Words.{pick}
 
 -- the number in the w bytes from place i on, low byte first
 unfoldable pub le : ℕ → List ℕ → ℕ → ℕ

@@ -18,7 +18,7 @@ use Rattle.units.specs.declared.Row.{Row}
 use Rattle.units.specs.declared.Quantity.{Quantity}
 use Rattle.units.specs.declared.Candidate.{Candidate}
 use Rattle.units.specs.Lists.{noFactor}
-use Rattle.tables.specs.Rows.{pick}
+use Rattle.exponents.specs.Words.{pick}
 use Rattle.wire.specs.Bytes.{le, bytesOf, runAt, runBytes, padTo, countOf}
 
 -- ---- read from place i on

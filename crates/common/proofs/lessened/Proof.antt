@@ -1,7 +1,7 @@
--- `lessened` meets its contract. The invariant: the factors before i are done, with the first j of c, and what is left of them are the first k items.
+-- `lessened` meets its contract. It compares by place; at the end the table's order says the same. The invariant: the factors before i are done, with the first j of c, and what is left of them are the first k items.
 use borrow.Author.Needs.{needs}
 use borrow.Author.Tests.{not-true, not-false}
-use mathlib.Core.Path.{_≡_, refl, sym, _∙_}
+use mathlib.Core.Path.{_≡_, refl, sym, ap, _∙_}
 use mathlib.Core.Logic.{⊎-elim}
 use mathlib.Core.List.{List}
 use Prim.Native.Nat.{_-_, _≤_}
@@ -9,10 +9,11 @@ use native.Mathlib.Omega.{arith}
 use lib.ListN.{length, drop, getD}
 use Rattle.units.specs.declared.Factor.{Factor}
 use Rattle.units.specs.Lists.{noFactor}
-use Rattle.tables.specs.Items.{View, packItems}
-use Rattle.canonical.specs.Order.{byPlace}
+use Rattle.tables.specs.Held.{View, packItems, byPlace}
+use Rattle.canonical.specs.Held.{formOf}
 use Rattle.reduction.proofs.Resolved.{nilItem, items-len, item-at}
 use Rattle.common.proofs.Lessening.{leftBy, left-none, left-next, Lessens, lessens-none, lessens-whole, lessens-part, lessens-gone, lessens-refused, lessens-end, moved}
+use Rattle.common.proofs.Resolved.{lessen-placed}
 use Rattle.common.proofs.lessened.Statement.{statement}
 use Rattle.common.proofs.lessened.Tie as tie
 
@@ -114,13 +115,16 @@ empty-but-requires : tie.Need-empty-but-requires Inv-loop μ-loop
 empty-but-requires c κs = search needs
 
 returns : tie.Need-returns Inv-loop μ-loop
-returns c v gs cs p q hg hc =
+returns c v gs cs rm rc =
     let f : tie.Joined1 Inv-loop μ-loop = c .before .before .before .before in
     let k = f .before .before .before .loop in
     let m = f .before .before .before .before .before in
-    let n = items-len v (m .before .before .args .t1) gs p in
+    let n = items-len v (m .before .before .args .t1) gs (rm .is) in
+    let h = rm .short in
     let same = m .before .capped .ensures .1 (omega arith) in
-    c .empty-but .ensures ∙ lessens-refused v gs cs (k .o) (k .k) (k .j) (k .i) (k .inv .3 v gs cs p q hg hc) (omega arith) _ (sym (told f v gs cs p q hg hc) ∙ c .before .before .left2 .given .1)
+    c .empty-but .ensures
+    ∙ lessens-refused v gs cs (k .o) (k .k) (k .j) (k .i) (k .inv .3 v gs cs (rm .is) (rc .is) h (rc .short)) (omega arith) _ (sym (told f v gs cs (rm .is) (rc .is) h (rc .short)) ∙ c .before .before .left2 .given .1)
+    ∙ ap (formOf v) (lessen-placed v gs cs rm rc)
 
 add-i : tie.Need-add-i Inv-loop μ-loop
 add-i c = search needs
@@ -154,12 +158,14 @@ loop-again c =
     )
 
 returns-2 : tie.Need-returns-2 Inv-loop μ-loop
-returns-2 c v gs cs p q hg hc =
+returns-2 c v gs cs rm rc =
     let k = c .before .loop in
     let m = c .before .before .before in
-    let n = items-len v (m .before .before .args .t1) gs p in
+    let n = items-len v (m .before .before .args .t1) gs (rm .is) in
+    let h = rm .short in
     let same = m .before .capped .ensures .1 (omega arith) in
-    lessens-end v gs cs (k .o) (k .k) (k .j) (k .i) (k .inv .3 v gs cs p q hg hc) (omega arith)
+    lessens-end v gs cs (k .o) (k .k) (k .j) (k .i) (k .inv .3 v gs cs (rm .is) (rc .is) h (rc .short)) (omega arith)
+    ∙ ap (formOf v) (lessen-placed v gs cs rm rc)
 
 pub lessened-spec : {M : Type 1} → statement M
 lessened-spec =

@@ -1,21 +1,21 @@
--- `over_common` meets its contract. The invariants: the factors before i are done, and what they share are the first k items; the factors of m before j have another row or prefix than the one at i, and that at `end`, if it isn't past the last, has them.
+-- `over_common` meets its contract. It compares by place; at the end the table's order says the same. The invariants: the factors before i are done, and what they share are the first k items; the factors of m before j have another row or prefix than the one at i, and that at `end`, if it isn't past the last, has them.
 use borrow.Author.Needs.{needs}
-use mathlib.Core.Path.{_≡_, refl, _∙_}
+use mathlib.Core.Path.{_≡_, refl, ap, _∙_}
 use mathlib.Core.Bool.{false}
 use mathlib.Core.Logic.{⊎-elim}
-use mathlib.Core.List.{List}
+use mathlib.Core.List.{List, map}
 use Prim.Native.Nat.{_-_, _≤_, _<_, Ordering·eq}
 use native.Mathlib.Omega.{arith}
 use lib.ListN.{length, drop, getD}
 use Rattle.units.specs.declared.Factor.{Factor}
-use Rattle.units.specs.Lists.{noFactor, some, factorFault}
-use Rattle.tables.specs.Items.{View, packItems}
-use Rattle.canonical.specs.Order.{byPlace}
-use Rattle.canonical.specs.Terms.{spots}
+use Rattle.units.specs.Lists.{noFactor, some, factorFault, inverted}
+use Rattle.tables.specs.Held.{View, packItems, byPlace}
+use Rattle.canonical.specs.Held.{spots}
 use Rattle.canonical.proofs.Comparing.{told-less, told-equal, told-more}
 use Rattle.reduction.proofs.Resolved.{nilItem, items-len, item-at}
 use Rattle.common.specs.Common.{meet, sharedWith}
 use Rattle.common.proofs.Sharing.{shared-end, shared-here, shared-behind, shared-before, Gathered, gathered-none, own-place, gathered-past, gathered-on, gathered-end, moved}
+use Rattle.common.proofs.Resolved.{common-placed}
 use Rattle.common.proofs.over_common.Statement.{statement}
 use Rattle.common.proofs.over_common.Tie as tie
 
@@ -190,13 +190,15 @@ loop-again c =
     )
 
 returns : tie.Need-returns Inv-loop2 μ-loop2 Inv-loop μ-loop
-returns c v fs gs p q hf hg sf sg =
+returns c v fs gs rl rm =
     let k = c .before .loop in
     let m = c .before .before .before in
     let a = m .before .before .args in
-    let n = items-len v (a .t1) fs p in
+    let n = items-len v (a .t1) fs (rl .is) in
+    let h = rl .short in
     let same = m .before .capped .ensures .1 (omega arith) in
-    gathered-end v fs gs (k .o) (k .k) (k .i) (k .inv .2 v fs gs p q hf hg sf sg) (omega arith)
+    gathered-end v fs gs (k .o) (k .k) (k .i) (k .inv .2 v fs gs (rl .is) (rm .is) h (rm .short) (rl .shaped) (rm .shaped)) (omega arith)
+    ∙ ap (λ l. packItems v (map inverted l)) (common-placed v fs gs rl rm)
 
 pub over-common-spec : {M : Type 1} → statement M
 over-common-spec =

@@ -8,7 +8,7 @@ use lib.ListN.{drop}
 use Rattle.exponents.specs.Outcome.{TABLE}
 use Rattle.units.specs.declared.Row.{Row}
 use Rattle.tables.specs.Rows.{Admission, stopped, admit, slots, rowsOf}
-use Rattle.tables.specs.Pages.{Room, Pages, admittedOf}
+use Rattle.tables.specs.Held.{Room, Pages, admittedOf}
 use Rattle.tables.proofs.Placing.{len-slots}
 use Rattle.tables.proofs.Slotting.{slots-few}
 use Rattle.tables.proofs.Admitting.{Admitting, admitting-none, admitting-on, admitting-off, admitting-end}
@@ -64,7 +64,7 @@ returns c =
     let m : tie.After-many Inv-loop μ-loop = c .before .before in
     let a = start m .args in
     let is : admit (tableFrom (a .s .now)) ≡ stopped TABLE [] = too-many (a .s .now) (m .many .result) (m .many .ensures) (c .before .if1 .taken) in
-    (c .refused .ensures ∙ sym (ap (admittedOf (slots (rowsOf (tableFrom (a .s .now))))) is), start m .pre .0, subst (λ (x : Admission). Pages x (a .nums .now) (a .dens .now) (a .scales .now) (a .ranks .now) (a .based .now)) (sym is) tt)
+    record { is = c .refused .ensures ∙ sym (ap (admittedOf (slots (rowsOf (tableFrom (a .s .now))))) is); room = start m .pre .0; pages = subst (λ (x : Admission). Pages x (a .nums .now) (a .dens .now) (a .scales .now) (a .ranks .now) (a .based .now)) (sym is) tt }
 
 slots-of-requires : tie.Need-slots-of-requires Inv-loop μ-loop
 slots-of-requires c κs = let m : tie.After-many Inv-loop μ-loop = c .before in (c .if1 .left, rows-inside (start m .args .s .now) (m .many .result) (m .many .ensures) (c .if1 .left))
@@ -96,19 +96,19 @@ refused-requires-2 : tie.Need-refused-requires-2 Inv-loop μ-loop
 refused-requires-2 c κs = search needs
 
 same-length : tie.Need-same-length Inv-loop μ-loop
-same-length c = let q = row (c .before .before) in q .admit-row .ensures .0 .0 ∙ sym (start (number (turn q)) .pre .0 .0)
+same-length c = let q = row (c .before .before) in q .admit-row .ensures .room .0 ∙ sym (start (number (turn q)) .pre .0 .0)
 
 same-length-2 : tie.Need-same-length-2 Inv-loop μ-loop
-same-length-2 c = let q = row (c .before .before) in q .admit-row .ensures .0 .1 ∙ sym (start (number (turn q)) .pre .0 .1)
+same-length-2 c = let q = row (c .before .before) in q .admit-row .ensures .room .1 ∙ sym (start (number (turn q)) .pre .0 .1)
 
 same-length-3 : tie.Need-same-length-3 Inv-loop μ-loop
-same-length-3 c = let q = row (c .before .before) in q .admit-row .ensures .0 .2 ∙ sym (start (number (turn q)) .pre .0 .2)
+same-length-3 c = let q = row (c .before .before) in q .admit-row .ensures .room .2 ∙ sym (start (number (turn q)) .pre .0 .2)
 
 same-length-4 : tie.Need-same-length-4 Inv-loop μ-loop
-same-length-4 c = let q = row (c .before .before) in q .admit-row .ensures .0 .3 ∙ sym (start (number (turn q)) .pre .0 .3)
+same-length-4 c = let q = row (c .before .before) in q .admit-row .ensures .room .3 ∙ sym (start (number (turn q)) .pre .0 .3)
 
 same-length-5 : tie.Need-same-length-5 Inv-loop μ-loop
-same-length-5 c = let q = row (c .before .before) in q .admit-row .ensures .0 .4 ∙ sym (start (number (turn q)) .pre .0 .4)
+same-length-5 c = let q = row (c .before .before) in q .admit-row .ensures .room .4 ∙ sym (start (number (turn q)) .pre .0 .4)
 
 returns-2 : tie.Need-returns-2 Inv-loop μ-loop
 returns-2 c =
@@ -119,8 +119,8 @@ returns-2 c =
     let t =
     whole (start m .args .s .now) (m .many .result) (m .many .ensures) (k .before .before .if1 .left) _ _ _ _ _ _
     (admitting-off (slots (all k)) (all k) _ _ _ _ _ _ _ a _ (here q) (q .admit-row .result) _ _ _ _ _
-    (q .admit-row .ensures .1 (slots (all k)) (a .ks) (k .before .slots-of .ensures) (a .at) (a .bases-are) (a .paged)) (c .before .if2 .taken)) in
-    (c .refused2 .ensures ∙ t .0, q .admit-row .ensures .0, t .1)
+    (q .admit-row .ensures .joins (slots (all k)) (a .ks) (k .before .slots-of .ensures) (a .at) (a .bases-are) (a .paged)) (c .before .if2 .taken)) in
+    record { is = c .refused2 .ensures ∙ t .0; room = q .admit-row .ensures .room; pages = t .1 }
 
 counted-requires : tie.Need-counted-requires Inv-loop μ-loop
 counted-requires c κs = turn (row (c .before)) .loop .inv .2 .few
@@ -139,8 +139,8 @@ loop-again c =
     let low : k .loop .i < number k .many .result = q .before .before .before .before .before .before .before .loop-test .taken in
     let more =
     admitting-on (slots (all k)) (all k) _ _ _ _ _ _ _ a _ (here q) (q .admit-row .result) _ _ _ _ _
-    (q .admit-row .ensures .1 (slots (all k)) (a .ks) (k .before .slots-of .ensures) (a .at) (a .bases-are) (a .paged)) (c .before .if2 .left) (c .counted .result) (c .counted .ensures) in
-    (omega arith, q .admit-row .ensures .0, more)
+    (q .admit-row .ensures .joins (slots (all k)) (a .ks) (k .before .slots-of .ensures) (a .at) (a .bases-are) (a .paged)) (c .before .if2 .left) (c .counted .result) (c .counted .ensures) in
+    (omega arith, q .admit-row .ensures .room, more)
 
 same-length-6 : tie.Need-same-length-6 Inv-loop μ-loop
 same-length-6 c = c .before .loop .inv .1 .0 ∙ sym (start (number (c .before)) .pre .0 .0)
@@ -166,7 +166,7 @@ returns-3 c =
     let t =
     whole s (m .many .result) (m .many .ensures) (k .before .before .if1 .left) _ _ _ _ _ _
     (admitting-end (slots (all k)) (all k) _ _ _ _ _ _ _ (k .loop .inv .2) (omega (arith, length-runAt rowAt 176 (m .many .result) s 0)) (k .before .slots-of .result) (k .before .slots-of .ensures)) in
-    (ap (λ (x : ℕ). record { slots = k .before .slots-of .result; len = x; refusal = 0 }) (sym n) ∙ t .0, k .loop .inv .1, t .1)
+    record { is = ap (λ (x : ℕ). record { slots = k .before .slots-of .result; len = x; refusal = 0 }) (sym n) ∙ t .0; room = k .loop .inv .1; pages = t .1 }
 
 pub admit-bytes-spec : {M : Type 1} → statement M
 admit-bytes-spec =

@@ -23,7 +23,7 @@ admit-bytes-requires : tie.Need-admit-bytes-requires
 admit-bytes-requires c κs = search (needs, blank-new)
 
 returns : tie.Need-returns
-returns c = c .before .before .before .before .before .admit-bytes .ensures .0
+returns c = c .before .before .before .before .before .admit-bytes .ensures .is
 
 pub admitted-spec : {M : Type 1} → statement M
 admitted-spec = tie.close (tie.spec slice-aggregate-admit-bytes slice-aggregate-admit-bytes-2 slice-aggregate-admit-bytes-3 slice-aggregate-admit-bytes-4 slice-aggregate-admit-bytes-5 admit-bytes-requires returns)

@@ -39,7 +39,7 @@ returns : tie.Need-returns
 returns c =
     let t = c .before .before .before .before .before .before .before .before .before .before .before .before in
     let rows = tableFrom (t .before .before .before .before .before .before .before .before .args .s .now) in
-    (c .open-over .ensures rows (t .admit-bytes .ensures .0) (t .admit-bytes .ensures .2), tells-of rows _ _ _ _ _ (t .admit-bytes .ensures .2))
+    record { is = c .open-over .ensures rows (t .admit-bytes .ensures); tells = tells-of rows _ _ _ _ _ (t .admit-bytes .ensures .pages) }
 
 pub open-lists-spec : {M : Type 1} → statement M
 open-lists-spec = tie.close (tie.spec slice-aggregate-admit-bytes slice-aggregate-admit-bytes-2 slice-aggregate-admit-bytes-3 admit-bytes-requires slice-aggregate-open-over slice-aggregate-open-over-2 slice-aggregate-open-over-3 open-over-requires same-length same-length-2 returns)

@@ -4,7 +4,7 @@ use mathlib.Core.Path.{sym, ap, _∙_}
 use mathlib.Core.Logic.{⊎-elim}
 use Prim.Native.Nat.{_-_, _*_, _≤_, _<_}
 use native.Mathlib.Omega.{arith}
-use Rattle.tables.specs.Rows.{packSlots}
+use Rattle.tables.specs.Held.{packSlots}
 use Rattle.tables.proofs.Slotting.{Slotting, slotting-none, slotting-on, slotting-end}
 use Rattle.wire.specs.Bytes.{runAt}
 use Rattle.wire.specs.Records.{rowAt}

@@ -26,7 +26,7 @@ returns : tie.Need-returns
 returns c =
     let o = c .before .before .before .before .before in
     let s = o .before .before .before .before .before .args in
-    c .checked-power-over .ensures (s .rows) (o .open-lists .ensures .0) (o .open-lists .ensures .1)
+    c .checked-power-over .ensures (s .rows) (o .open-lists .ensures)
 
 pub checked-power-spec : {M : Type 1} → statement M
 checked-power-spec = tie.close (tie.spec slice-aggregate-open-lists slice-aggregate-open-lists-2 open-lists-requires slice-aggregate-checked-power-over slice-aggregate-checked-power-over-2 checked-power-over-requires returns)

@@ -6,7 +6,7 @@ use native.Mathlib.Omega.{arith}
 use lib.ListN.{length, take, drop}
 use lib.Seq.{length-take-le}
 use Rattle.exponents.specs.Outcome.{refusalOf}
-use Rattle.tables.proofs.Terms.{unmapped}
+use Rattle.exponents.proofs.Words.{unmapped}
 use Rattle.registry.specs.Registry.{listsFrom, candidateLists}
 use Rattle.registry.proofs.GivenLists.{nilCandidate, too-many, not-many, no-more, out-of-order, bad-list, good-list}
 use Rattle.registry.proofs.candidates_fault.Statement.{statement}

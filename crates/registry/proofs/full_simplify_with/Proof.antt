@@ -43,7 +43,7 @@ full-simplify-with-over-requires c κs = search needs
 returns : tie.Need-returns
 returns c =
     let t = c .before .before .before .before .before .before .before .before .before .before .before in
-    c .full-simplify-with-over .ensures (t .before .before .before .before .before .before .args .rows) (t .admit .ensures .0) (t .admit .ensures .2)
+    c .full-simplify-with-over .ensures (t .before .before .before .before .before .before .args .rows) (t .admit .ensures)
 
 pub full-simplify-with-spec : {M : Type 1} → statement M
 full-simplify-with-spec = tie.close (tie.spec slice-aggregate-admit slice-aggregate-admit-2 slice-aggregate-admit-3 slice-aggregate-admit-4 slice-aggregate-admit-5 admit-requires slice-aggregate-full-simplify-with-over slice-aggregate-full-simplify-with-over-2 slice-aggregate-full-simplify-with-over-3 slice-aggregate-full-simplify-with-over-4 slice-aggregate-full-simplify-with-over-5 full-simplify-with-over-requires returns)

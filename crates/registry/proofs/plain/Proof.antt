@@ -12,11 +12,12 @@ use Rattle.floats.specs.Power.{one}
 use Rattle.units.specs.declared.Factor.{Factor}
 use Rattle.units.specs.Lists.{checked}
 use Rattle.tables.specs.Rows.{Facts}
-use Rattle.tables.specs.Pages.{Sized, Basic}
-use Rattle.tables.specs.Items.{itemOf, packItems}
-use Rattle.tables.proofs.Terms.{get-any, unmapped, nilFactor}
-use Rattle.resolution.proofs.Resolving.{pack-none, items-more}
-use Rattle.registry.specs.Registry.{plainView}
+use Rattle.tables.specs.Held.{Sized, Basic, itemOf, packItems}
+use Rattle.tables.proofs.Terms.{get-any, nilFactor}
+use Rattle.exponents.proofs.Words.{unmapped}
+use Rattle.tables.proofs.Resolved.{no-items}
+use Rattle.resolution.proofs.Resolving.{items-more}
+use Rattle.registry.specs.Held.{plainView}
 use Rattle.registry.proofs.GivenLists.{listed, list-long, factor-at, row-there}
 use Rattle.registry.proofs.Looking.{plain-item}
 use Rattle.registry.proofs.plain.Statement.{statement}
@@ -26,7 +27,7 @@ abbrev Inv-loop : tie.InvT-loop
 Inv-loop scales based l n o₀ i₀ o i =
     (i ≤ n)
     × (n ≤ 16)
-    × ((ks : List Facts) (fs : List Factor) → length ks ≤ 128 → Sized ks scales → Basic ks based → checked (length ks) l ≡ given fs → o ≡ packItems (plainView ks) (take i fs))
+    × ((ks : List Facts) (fs : List Factor) → length ks ≤ 128 → Sized ks scales → Basic ks based → checked (length ks) l ≡ given fs → o ≡ packItems (plainView ks fs) (take i fs))
 
 abbrev μ-loop : tie.MeasureT-loop
 μ-loop scales based l n o₀ i₀ o i = n - i
@@ -57,7 +58,7 @@ no-items-requires : tie.Need-no-items-requires Inv-loop μ-loop
 no-items-requires c κs = search needs
 
 loop-holds : tie.Need-loop-holds Inv-loop μ-loop
-loop-holds c = (omega arith, c .before .capped .ensures .0, λ ks fs h sized basic p. c .no-items .ensures ∙ pack-none (plainView ks))
+loop-holds c = (omega arith, c .before .capped .ensures .0, λ ks fs h sized basic p. c .no-items .ensures ∙ no-items (plainView ks fs))
 
 mul-f : tie.Need-mul-f Inv-loop μ-loop
 mul-f c = search needs
@@ -109,15 +110,15 @@ loop-again c =
       λ ks fs h sized basic p.
           let n = turns (o .before .before) (length ks) fs p in
           let m = list-long (listed p) (full (begin (o .before .before .before))) in
-          items-more (plainView ks) fs (o .loop .i) nilFactor (o .loop .o) _ (omega arith) (omega arith) (o .loop .inv .2 ks fs h sized basic p)
-          (plain-item ks f _ _ (get-any (a .scales .now) (f .row) nan one (omega arith) ∙ sized (f .row) (there e (length ks) fs p)) (basic (f .row) (there e (length ks) fs p)) ∙ ap (itemOf (plainView ks)) (factor-at (listed p) (o .loop .i) nilFactor (omega arith))),
+          items-more (plainView ks fs) fs (o .loop .i) nilFactor (o .loop .o) _ (omega arith) (omega arith) (o .loop .inv .2 ks fs h sized basic p)
+          (plain-item ks fs f _ _ (get-any (a .scales .now) (f .row) nan one (omega arith) ∙ sized (f .row) (there e (length ks) fs p)) (basic (f .row) (there e (length ks) fs p)) ∙ ap (itemOf (plainView ks fs)) (factor-at (listed p) (o .loop .i) nilFactor (omega arith))),
     )
 
 returns-2 : tie.Need-returns-2 Inv-loop μ-loop
 returns-2 c ks fs h sized basic p =
     let o = c .before in
     let n = turns (o .before .before) (length ks) fs p in
-    o .loop .inv .2 ks fs h sized basic p ∙ ap (packItems (plainView ks)) (take-all (o .loop .i) fs (omega arith))
+    o .loop .inv .2 ks fs h sized basic p ∙ ap (packItems (plainView ks fs)) (take-all (o .loop .i) fs (omega arith))
 
 pub plain-spec : {M : Type 1} → statement M
 plain-spec =

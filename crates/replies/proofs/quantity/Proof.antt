@@ -2,7 +2,7 @@
 use borrow.Author.Needs.{needs}
 use mathlib.Core.Path.{_≡_, refl}
 use lib.ListN.{length}
-use Rattle.tables.proofs.Terms.{unmapped}
+use Rattle.exponents.proofs.Words.{unmapped}
 use Rattle.values.specs.Quantities.{answeredOf}
 use Rattle.values.specs.declared.answers.Answer.{Answer}
 use Rattle.wire.specs.Records.{quantityBytes}

@@ -2,7 +2,7 @@
 use borrow.Author.Needs.{needs}
 use mathlib.Core.Path.{_≡_, refl}
 use lib.ListN.{length}
-use Rattle.tables.proofs.Terms.{unmapped}
+use Rattle.exponents.proofs.Words.{unmapped}
 use Rattle.reduction.specs.Reduction.{reducedOf}
 use Rattle.reduction.specs.declared.reduce.Reduced.{Reduced}
 use Rattle.replies.specs.Replies.{reducedBytes}

@@ -4,7 +4,7 @@ use mathlib.Core.Path.{_≡_, refl}
 use lib.ListN.{length}
 use Rattle.units.specs.Lists.{madeOf}
 use Rattle.units.specs.declared.lists.Made.{Made}
-use Rattle.tables.proofs.Terms.{unmapped}
+use Rattle.exponents.proofs.Words.{unmapped}
 use Rattle.replies.specs.Replies.{unitBytes}
 use Rattle.replies.proofs.Parts.{unit-sized, unit-written}
 use Rattle.replies.proofs.Sent.{refusal-sent, room-short, answer-sent}

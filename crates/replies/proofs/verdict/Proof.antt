@@ -4,7 +4,7 @@ use mathlib.Core.Bool.{true, false}
 use Rattle.canonical.specs.declared.equality.Verdict.the-variants.{Yes, No, Refused}
 use Rattle.replies.specs.Replies.{verdictBytes}
 use Rattle.replies.proofs.Sent.{map-sent, map-passed}
-use Rattle.replies.proofs.Told.{verdict-told}
+use Rattle.quantities.proofs.Converting.{judged-so}
 use Rattle.replies.proofs.verdict.Statement.{statement}
 use Rattle.replies.proofs.verdict.Tie as tie
 
@@ -33,7 +33,7 @@ returns : tie.Need-returns
 unfolding verdictBytes
 returns c o e =
     let s : tie.Start = c .before .before .before .before .before .before .before in
-    map-sent verdictBytes (s .args .out .now) o (c .before .before .number .result) true _ (verdict-told o (s .args .v) Yes e (c .before .before .before .before .enum-told .given .1)) (c .before .before .number .ensures)
+    map-sent verdictBytes (s .args .out .now) o (c .before .before .number .result) true _ (judged-so o (s .args .v) Yes e (c .before .before .before .before .enum-told .given .1)) (c .before .before .number .ensures)
 
 same-length-2 : tie.Need-same-length-2
 same-length-2 c = search needs
@@ -42,13 +42,13 @@ returns-2 : tie.Need-returns-2
 unfolding verdictBytes
 returns-2 c o e =
     let s : tie.Start = c .before .before .before .before .before .before .before in
-    map-sent verdictBytes (s .args .out .now) o (c .before .before .number2 .result) false _ (verdict-told o (s .args .v) No e (c .before .before .before .before .enum-told2 .given .1)) (c .before .before .number2 .ensures)
+    map-sent verdictBytes (s .args .out .now) o (c .before .before .number2 .result) false _ (judged-so o (s .args .v) No e (c .before .before .before .before .enum-told2 .given .1)) (c .before .before .number2 .ensures)
 
 returns-3 : tie.Need-returns-3
 returns-3 c o e =
     let s : tie.Start = c .before .before .before .before .before in
     let y = c .before .before .v .given in
-    map-passed verdictBytes (s .args .out .now) o (c .refused .result) (y .0 .0) (verdict-told o (s .args .v) (Refused (y .0 .0)) e (y .1)) (c .refused .ensures)
+    map-passed verdictBytes (s .args .out .now) o (c .refused .result) (y .0 .0) (judged-so o (s .args .v) (Refused (y .0 .0)) e (y .1)) (c .refused .ensures)
 
 pub verdict-spec : {M : Type 1} → statement M
 verdict-spec =

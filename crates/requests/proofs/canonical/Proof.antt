@@ -36,7 +36,7 @@ unfolding canonical
 returns c =
     let h = c .before .before .before .before in
     let k = h .before .before .before in
-    with-one (c .before .before .unit .ensures) (lists.canonical _) (h .canonical-over .ensures _ _ (alone _ _ (k .open-lists .ensures .0) (k .before .before .before .empty .ensures))) (k .before .before .before .before .list .ensures)
+    with-one (c .before .before .unit .ensures) (lists.canonical _) (h .canonical-over .ensures _ _ (alone _ _ (k .open-lists .ensures) (k .before .before .before .empty .ensures) .is)) (k .before .before .before .before .list .ensures)
 
 pub canonical-spec : {M : Type 1} → statement M
 canonical-spec =

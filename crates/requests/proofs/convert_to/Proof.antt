@@ -42,7 +42,7 @@ unfolding convertTo
 returns c =
     let h = c .before .before .before .before in
     let k = h .before .before .before .before .before in
-    with-two (c .before .before .quantity2 .ensures) (quantities.convertTo _) (h .convert-to-over .ensures _ _ (k .open-lists .ensures .0) (k .open-lists .ensures .1)) (k .before .before .before .before .before .quantity .ensures) (k .before .before .before .before .list .ensures)
+    with-two (c .before .before .quantity2 .ensures) (quantities.convertTo _) (h .convert-to-over .ensures _ _ (k .open-lists .ensures)) (k .before .before .before .before .before .quantity .ensures) (k .before .before .before .before .list .ensures)
 
 pub convert-to-spec : {M : Type 1} → statement M
 convert-to-spec =

@@ -42,7 +42,7 @@ unfolding fullSimplify
 returns c =
     let h = c .before .before .before .before in
     let k = h .before .before .before .before .before in
-    with-one (c .before .before .quantity2 .ensures) (simplification.fullSimplify _) (h .full-simplify-over .ensures _ (alone _ _ (k .open-lists .ensures .0) (k .before .before .before .empty .ensures)) (k .open-lists .ensures .1)) (k .before .before .before .before .before .quantity .ensures)
+    with-one (c .before .before .quantity2 .ensures) (simplification.fullSimplify _) (h .full-simplify-over .ensures _ (alone _ _ (k .open-lists .ensures) (k .before .before .before .empty .ensures))) (k .before .before .before .before .before .quantity .ensures)
 
 pub full-simplify-spec : {M : Type 1} → statement M
 full-simplify-spec =

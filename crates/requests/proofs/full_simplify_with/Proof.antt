@@ -61,7 +61,7 @@ returns c =
     let h = c .before .before .before .before in
     let k = h .before .before .before .before .before .before .before .before .before .before .before in
     let a = k .before .before .before .before .before .before in
-    with-two (c .before .before .quantity2 .ensures) (registry.fullSimplifyWith _) (h .full-simplify-with-over .ensures _ (k .admit-bytes .ensures .0) (k .admit-bytes .ensures .2)) (a .before .quantity .ensures) (a .candidates .ensures)
+    with-two (c .before .before .quantity2 .ensures) (registry.fullSimplifyWith _) (h .full-simplify-with-over .ensures _ (k .admit-bytes .ensures)) (a .before .quantity .ensures) (a .candidates .ensures)
 
 pub full-simplify-with-spec : {M : Type 1} → statement M
 full-simplify-with-spec =

@@ -42,7 +42,7 @@ unfolding isMultipleOf
 returns c =
     let h = c .before .before .before .before in
     let k = h .before .before .before .before .before in
-    with-two (c .before .before .multiple .ensures) (lists.multiple _) (h .is-multiple-of-over .ensures _ _ _ (k .open-lists .ensures .0) (k .open-lists .ensures .1)) (k .before .before .before .before .list .ensures) (k .before .before .before .list2 .ensures)
+    with-two (c .before .before .multiple .ensures) (lists.multiple _) (h .is-multiple-of-over .ensures _ _ _ (k .open-lists .ensures)) (k .before .before .before .before .list .ensures) (k .before .before .before .list2 .ensures)
 
 pub is-multiple-of-spec : {M : Type 1} → statement M
 is-multiple-of-spec =

@@ -42,7 +42,7 @@ unfolding reduce
 returns c =
     let h = c .before .before .before .before in
     let k = h .before .before .before .before .before in
-    with-one (c .before .before .quantity2 .ensures) (values.reduce _) (h .reduce-over .ensures _ (alone _ _ (k .open-lists .ensures .0) (k .before .before .before .empty .ensures)) (k .open-lists .ensures .1)) (k .before .before .before .before .before .quantity .ensures)
+    with-one (c .before .before .quantity2 .ensures) (values.reduce _) (h .reduce-over .ensures _ (alone _ _ (k .open-lists .ensures) (k .before .before .before .empty .ensures))) (k .before .before .before .before .before .quantity .ensures)
 
 pub reduce-spec : {M : Type 1} → statement M
 reduce-spec =

@@ -42,7 +42,7 @@ unfolding reduceList
 returns c =
     let h = c .before .before .before .before in
     let k = h .before .before .before .before .before in
-    with-one (c .before .before .reduced .ensures) (lists.reduction _) (h .reduce-list-over .ensures _ _ (alone _ _ (k .open-lists .ensures .0) (k .before .before .before .empty .ensures)) (k .open-lists .ensures .1)) (k .before .before .before .before .list .ensures)
+    with-one (c .before .before .reduced .ensures) (lists.reduction _) (h .reduce-list-over .ensures _ _ (alone _ _ (k .open-lists .ensures) (k .before .before .before .empty .ensures))) (k .before .before .before .before .list .ensures)
 
 pub reduce-list-spec : {M : Type 1} → statement M
 reduce-list-spec =

@@ -36,7 +36,7 @@ unfolding sameList
 returns c =
     let h = c .before .before .before .before in
     let k = h .before .before .before in
-    with-two (c .before .before .verdict .ensures) (lists.sameLists _) (h .same-list-over .ensures _ _ _ (k .open-lists .ensures .0)) (k .before .before .before .before .list .ensures) (k .before .before .before .list2 .ensures)
+    with-two (c .before .before .verdict .ensures) (lists.sameLists _) (h .same-list-over .ensures _ _ _ (k .open-lists .ensures .is)) (k .before .before .before .before .list .ensures) (k .before .before .before .list2 .ensures)
 
 pub same-list-spec : {M : Type 1} → statement M
 same-list-spec =

@@ -42,7 +42,7 @@ unfolding smallerUnit
 returns c =
     let h = c .before .before .before .before in
     let k = h .before .before .before .before .before in
-    with-two (c .before .before .unit .ensures) (lists.smallerUnit _) (h .smaller-unit-over .ensures _ _ _ (k .open-lists .ensures .0) (k .open-lists .ensures .1)) (k .before .before .before .before .list .ensures) (k .before .before .before .list2 .ensures)
+    with-two (c .before .before .unit .ensures) (lists.smallerUnit _) (h .smaller-unit-over .ensures _ _ _ (k .open-lists .ensures)) (k .before .before .before .before .list .ensures) (k .before .before .before .list2 .ensures)
 
 pub smaller-unit-spec : {M : Type 1} → statement M
 smaller-unit-spec =

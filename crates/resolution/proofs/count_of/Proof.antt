@@ -6,8 +6,7 @@ use native.Mathlib.Omega.{arith}
 use lib.ListN.{getD}
 use Rattle.units.specs.declared.Factor.{Factor}
 use Rattle.tables.specs.Rows.{Facts}
-use Rattle.tables.specs.Pages.{Ranked}
-use Rattle.resolution.specs.Resolve.{Named}
+use Rattle.resolution.specs.Held.{Counts}
 use Rattle.resolution.proofs.Counting.{Counting, byKeys, byRanks, place-most, class-most, counting-none, counting-on, counting-end}
 use Rattle.resolution.proofs.count_of.Statement.{statement}
 use Rattle.resolution.proofs.count_of.Tie as tie
@@ -17,14 +16,14 @@ Inv-loop keys named ranks i n s b c₀ j₀ c j =
     (j ≤ n)
     × (c .place ≤ j)
     × (c .class ≤ j)
-    × ((ks : List Facts) (l : List Factor) → Named ks l n named keys → Ranked ks ranks → Counting ks l (getD named i 0) c j)
+    × ((ks : List Facts) (l : List Factor) → Counts ks l n named keys ranks → Counting ks l (getD named i 0) c j)
 
 abbrev μ-loop : tie.MeasureT-loop
 μ-loop keys named ranks i n s b c₀ j₀ c j = n - j
 
 -- each row that is named has a rank
 looked : (c : tie.Start Inv-loop μ-loop) (j : ℕ) → j < c .args .n → getD (c .args .named .now) j 0 < 128
-looked c = c .pre .5
+looked c = c .pre .2 .3
 
 mul-s : tie.Need-mul-s Inv-loop μ-loop
 mul-s c = search needs
@@ -42,7 +41,7 @@ shared-slice-read-b : tie.Need-shared-slice-read-b Inv-loop μ-loop
 shared-slice-read-b c = let h = looked (c .before .before .before .before) (c .before .before .before .before .args .i) (omega arith) in omega arith
 
 loop-holds : tie.Need-loop-holds Inv-loop μ-loop
-loop-holds c = (omega arith, omega arith, omega arith, λ ks l h k. counting-none ks l _)
+loop-holds c = (omega arith, omega arith, omega arith, λ ks l h. counting-none ks l _)
 
 mul-r : tie.Need-mul-r Inv-loop μ-loop
 mul-r c = search needs
@@ -92,13 +91,13 @@ loop-again c =
       omega arith,
       omega (arith, place-most (o .c) u k rest e),
       omega (arith, class-most (o .c) u k rest e),
-      λ ks l h r. counting-on h (o .j) (a .i) (omega arith) (omega arith) (a .ranks .now) r (o .c) u e (o .inv .3 ks l h r),
+      λ ks l h. counting-on (h .named) (o .j) (a .i) (omega arith) (omega arith) (a .ranks .now) (h .ranked) (o .c) u e (o .inv .3 ks l h),
     )
 
 returns : tie.Need-returns Inv-loop μ-loop
-returns c ks l h n r =
+returns c ks l h =
     let o = c .before .loop in
-    counting-end ks l _ (o .c) (o .j) (o .inv .3 ks l h r) (omega arith)
+    counting-end ks l _ (o .c) (o .j) (o .inv .3 ks l h) (omega (arith, h .all))
 
 pub count-of-spec : {M : Type 1} → statement M
 count-of-spec =

@@ -7,7 +7,7 @@ use lib.ListN.{getD}
 use lib.Ieee.{Float}
 use Rattle.floats.specs.Power.{one}
 use Rattle.tables.proofs.Terms.{get-any}
-use Rattle.resolution.specs.Resolve.{itemBy}
+use Rattle.resolution.specs.Held.{itemBy}
 use Rattle.resolution.proofs.item.Statement.{statement}
 use Rattle.resolution.proofs.item.Tie as tie
 

@@ -4,24 +4,25 @@ use mathlib.Core.Path.{_≡_, ap, _∙_}
 use mathlib.Core.List.{List}
 use Prim.Native.Nat.{ℕ, _+_, _-_, _<_, _≤_}
 use native.Mathlib.Omega.{arith}
-use lib.ListN.{length, take, drop, getD}
+use lib.ListN.{length, take, getD}
 use lib.Seq.{take-all}
 use Rattle.units.specs.declared.Factor.{Factor}
 use Rattle.units.specs.Lists.{listOf}
 use Rattle.units.proofs.Laws.{listed}
 use Rattle.tables.specs.Rows.{Facts}
-use Rattle.tables.specs.Pages.{Sized, Ranked, Basic}
-use Rattle.tables.specs.Items.{viewOf, packItems}
-use Rattle.tables.proofs.Terms.{unmapped, nilFactor}
-use Rattle.resolution.specs.Resolve.{noItems, Named}
-use Rattle.resolution.proofs.Resolving.{pack-none, items-more, item-of}
+use Rattle.tables.specs.Held.{viewOf, packItems}
+use Rattle.exponents.proofs.Words.{unmapped}
+use Rattle.tables.proofs.Terms.{nilFactor}
+use Rattle.tables.proofs.Resolved.{no-items}
+use Rattle.resolution.specs.Held.{Fills}
+use Rattle.resolution.proofs.Resolving.{items-more, item-of}
 use Rattle.resolution.proofs.items.Statement.{statement}
 use Rattle.resolution.proofs.items.Tie as tie
 
 abbrev Inv-loop : tie.InvT-loop
 Inv-loop from n keys named scales ranks based l o₀ m i₀ o i =
     (i ≤ m)
-    × (o₀ ≡ noItems → (ks : List Facts) (fs : List Factor) → Named ks fs n named keys → n ≡ length fs → listOf l ≡ take (l .len) (drop from fs) → Sized ks scales → Ranked ks ranks → Basic ks based → o ≡ packItems (viewOf ks fs) (take i (listOf l)))
+    × ((ks : List Facts) (fs : List Factor) → Fills ks fs n l from o₀ named keys scales ranks based → o ≡ packItems (viewOf ks fs) (take i (listOf l)))
 
 abbrev μ-loop : tie.MeasureT-loop
 μ-loop from n keys named scales ranks based l o₀ m i₀ o i = m - i
@@ -31,10 +32,10 @@ full : (c : tie.Start Inv-loop μ-loop) → length (c .args .t1 .at) ≡ 16
 full c = search (needs, unmapped)
 
 low : (c : tie.Start Inv-loop μ-loop) (i : ℕ) → i < c .args .t1 .len → getD (c .args .named .now) (c .args .from + i) 0 < 128
-low c i h = c .pre .5 (c .args .from + i) (omega arith)
+low c i h = c .pre .5 .3 (c .args .from + i) (omega arith)
 
 loop-holds : tie.Need-loop-holds Inv-loop μ-loop
-loop-holds c = (omega arith, λ none ks fs h n e sized ranked basic. none ∙ pack-none (viewOf ks fs))
+loop-holds c = (omega arith, λ ks fs h. h .empty ∙ no-items (viewOf ks fs))
 
 mul-f : tie.Need-mul-f Inv-loop μ-loop
 mul-f c = search needs
@@ -46,7 +47,7 @@ add-count-of : tie.Need-add-count-of Inv-loop μ-loop
 add-count-of c = search needs
 
 count-of-requires : tie.Need-count-of-requires Inv-loop μ-loop
-count-of-requires c κs = let p = c .before .before .before .before .before .before .before .pre in (omega arith, p .2, p .3, p .4, p .7, p .5)
+count-of-requires c κs = let p = c .before .before .before .before .before .before .before .pre in (omega arith, p .3, p .5)
 
 add-r : tie.Need-add-r Inv-loop μ-loop
 add-r c = search needs
@@ -64,7 +65,7 @@ item-requires : tie.Need-item-requires Inv-loop μ-loop
 item-requires c κs =
     let s : tie.Start Inv-loop μ-loop = c .before .before .before .before .before .before .before .before .before in
     let h = low s (c .before .before .before .before .loop .i) (omega arith) in
-    (omega (arith, s .pre .6), omega (arith, s .pre .8))
+    (omega (arith, s .pre .2), omega (arith, s .pre .4))
 
 mul-t22 : tie.Need-mul-t22 Inv-loop μ-loop
 mul-t22 c = search needs
@@ -88,17 +89,17 @@ loop-again c =
     let l = s .args .t1 in
     let d = c .before .before .count-of in (
       omega arith,
-      λ none ks fs h n e sized ranked basic.
-          items-more (viewOf ks fs) (listOf l) (o .i) nilFactor (o .o) (c .item .result) (omega (arith, listed l (full s) (s .pre .0))) (omega arith) (o .inv .1 none ks fs h n e sized ranked basic)
-          (item-of h l (s .args .from) e (o .i) (omega arith) (omega arith) nilFactor (d .result) (c .item .result) (d .ensures ks fs h n ranked) (s .args .scales .now) sized (s .args .based .now) basic (c .item .ensures)),
+      λ ks fs h.
+          items-more (viewOf ks fs) (listOf l) (o .i) nilFactor (o .o) (c .item .result) (omega (arith, listed l (full s) (s .pre .0))) (omega arith) (o .inv .1 ks fs h)
+          (item-of h (o .i) (omega arith) (omega arith) nilFactor (d .result) (c .item .result) (d .ensures ks fs (h .counts)) (c .item .ensures)),
     )
 
 returns : tie.Need-returns Inv-loop μ-loop
-returns c none ks fs h n e sized ranked basic =
+returns c ks fs h =
     let o = c .before .loop in
     let s : tie.Start Inv-loop μ-loop = c .before .before .before .before .before .before in
     let l = s .args .t1 in
-    o .inv .1 none ks fs h n e sized ranked basic ∙ ap (packItems (viewOf ks fs)) (take-all (o .i) (listOf l) (omega (arith, listed l (full s) (s .pre .0))))
+    o .inv .1 ks fs h ∙ ap (packItems (viewOf ks fs)) (take-all (o .i) (listOf l) (omega (arith, listed l (full s) (s .pre .0))))
 
 pub items-spec : {M : Type 1} → statement M
 items-spec =

@@ -10,7 +10,8 @@ use lib.Seq.{sets}
 use mir.Facts.{toZ-ofZ}
 use mir.Syntax.{w64}
 use mir.Val.{SFits}
-use Rattle.resolution.proofs.Gathering.{put-on, put-end}
+use Rattle.exponents.proofs.Places.{rest, put-on}
+use Rattle.resolution.proofs.Gathering.{put-end}
 use Rattle.resolution.proofs.put_key.Statement.{statement}
 use Rattle.resolution.proofs.put_key.Tie as tie
 
@@ -52,7 +53,7 @@ loop-again c =
     let z : length (a .t3) ≡ 16 = omega arith in (
       omega arith,
       simp length-set (omega arith),
-      ap (λ x. sets (set (l .keys) (a .at + l .i) x) (a .at + (l .i + 1)) (drop (l .i + 1) (a .t3))) (toZ-ofZ f) ∙ put-on (l .keys) (a .t3) (a .at) (l .i) (pos 0) (omega arith) ∙ l .inv .2,
+      ap (λ x. sets (set (l .keys) (a .at + l .i) x) (a .at + (l .i + 1)) (drop (l .i + 1) (a .t3))) (toZ-ofZ f) ∙ put-on (l .keys) _ _ _ (a .at) (l .i) (rest (a .t3) (pos 0) (l .i) (omega arith)) ∙ l .inv .2,
     )
 
 same-length : tie.Need-same-length Inv-loop μ-loop

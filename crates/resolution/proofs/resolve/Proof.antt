@@ -9,10 +9,11 @@ use lib.ListN.{length, getD, set, length-set}
 use lib.Seq.{length-sets}
 use Rattle.units.specs.declared.Factor.{Factor}
 use Rattle.units.specs.Lists.{both, noFactor}
-use Rattle.tables.specs.Rows.{Facts, nobody, packExps}
-use Rattle.tables.specs.Pages.{Paged}
-use Rattle.tables.proofs.Terms.{unmapped, nilFactor}
-use Rattle.resolution.specs.Resolve.{Keyed, Named, Within, resolvedOf}
+use Rattle.tables.specs.Rows.{Facts, nobody}
+use Rattle.tables.specs.Held.{packExps, Paged}
+use Rattle.exponents.proofs.Words.{unmapped}
+use Rattle.tables.proofs.Terms.{nilFactor}
+use Rattle.resolution.specs.Held.{Reads, Counts, Named, Within, resolvedOf}
 use Rattle.resolution.proofs.Gathering.{Lists, join, first-short, second-short, long-join, from-first, from-second, first-part, second-part, names-row, key-there, key-is, within-on, named-on, named-none, not-resolved, resolved-by}
 use Rattle.tables.proofs.Paging.{known-exps}
 use Rattle.resolution.proofs.Resolving.{row-any}
@@ -27,7 +28,7 @@ Inv-loop len nums dens scales ranks based none a b p n m keys₀ named₀ i₀ k
     × (length keys ≡ 512)
     × (length named ≡ 32)
     × Within i named
-    × ((ks : List Facts) → len ≡ length ks → Paged ks nums dens scales ranks based → Keyed ks → Named ks (join a b) i named keys)
+    × ((ks : List Facts) → Reads ks len none nums dens scales ranks based → Named ks (join a b) i named keys)
 
 abbrev μ-loop : tie.MeasureT-loop
 μ-loop len nums dens scales ranks based none a b p n m keys₀ named₀ i₀ keys named i = m - i
@@ -76,7 +77,7 @@ refused-requires : tie.Need-refused-requires Inv-loop μ-loop
 refused-requires c κs = search needs
 
 returns : tie.Need-returns Inv-loop μ-loop
-returns c none ks e g h = absurd (omega (arith, h .few))
+returns c ks h = absurd (omega (arith, h .all, h .keyed .few))
 
 pair-fault-requires : tie.Need-pair-fault-requires Inv-loop μ-loop
 pair-fault-requires c κs = search needs
@@ -85,11 +86,11 @@ refused-requires-2 : tie.Need-refused-requires-2 Inv-loop μ-loop
 refused-requires-2 c κs = search needs
 
 returns-2 : tie.Need-returns-2 Inv-loop μ-loop
-returns-2 c none ks e g h =
+returns-2 c ks h =
     let a = c .before .before .before .before .before .before .before .before .args in
-    c .refused2 .ensures none
+    c .refused2 .ensures (h .empty)
     ∙ not-resolved ks (both (a .len) (a .t7) (a .t8)) _ (c .before .before .pair-fault .ensures) (c .before .if2 .taken)
-    ∙ ap (λ n. resolvedOf ks (both n (a .t7) (a .t8))) e
+    ∙ ap (λ n. resolvedOf ks (both n (a .t7) (a .t8))) (h .all)
 
 add-m : tie.Need-add-m Inv-loop μ-loop
 add-m c = omega (arith, first-short (passed c), second-short (passed c))
@@ -103,7 +104,7 @@ loop-holds c =
       refl,
       refl,
       λ j h. absurd (omega arith),
-      λ ks e g h. named-none ks (join (a .t7) (a .t8)) _ _,
+      λ ks h. named-none ks (join (a .t7) (a .t8)) _ _,
     )
 
 mul-f : tie.Need-mul-f Inv-loop μ-loop
@@ -134,11 +135,11 @@ refused-requires-3 : tie.Need-refused-requires-3 Inv-loop μ-loop
 refused-requires-3 c κs = search needs
 
 returns-3 : tie.Need-returns-3 Inv-loop μ-loop
-returns-3 c none ks e g h =
+returns-3 c ks h =
     let x = c .before .before .before .before in
     let k = c .before .before .before in
-    let w = known x ks e g in
-    absurd (c .before .if4 .taken (key-there h _ (w .0) (x .exps-at .result) (w .1) (k .key-of .result) (k .key-of .ensures)))
+    let w = known x ks (h .all) (h .paged) in
+    absurd (c .before .if4 .taken (key-there (h .keyed) _ (w .0) (x .exps-at .result) (w .1) (k .key-of .result) (k .key-of .ensures)))
 
 mul-named : tie.Need-mul-named Inv-loop μ-loop
 mul-named c = search needs
@@ -179,14 +180,14 @@ loop-again c =
       ap length put ∙ length-sets (o .keys) (o .i * 16) nums ∙ o .inv .3,
       length-set (o .named) (o .i) (f .row) ∙ o .inv .4,
       within-on (o .named) (o .i) (f .row) room (low j) (o .inv .5),
-      λ ks e g h.
-          let w = known x ks e g in
+      λ ks h.
+          let w = known x ks (h .all) (h .paged) in
           subst (Named ks (join (a .t7) (a .t8)) (o .i + 1) (set (o .named) (o .i) (f .row))) (sym put)
-          (named-on (o .named) (o .i) (f .row) room (o .inv .6 ks e g h) nums (omega (arith, long-join l)) (omega arith)
+          (named-on (o .named) (o .i) (f .row) room (o .inv .6 ks h) nums (omega (arith, long-join l)) (omega arith)
           (ap (λ (f : Factor). f .row) (here j) ∙ row-any (join (a .t7) (a .t8)) (o .i) nilFactor noFactor (omega (arith, long-join l)))
           (w .0)
           (long-nums (c .before .before .before .before .before))
-          (key-is h (f .row) (w .0) (x .exps-at .result) (w .1) (k .key-of .result) (k .key-of .ensures))),
+          (key-is (h .keyed) (f .row) (w .0) (x .exps-at .result) (w .1) (k .key-of .result) (k .key-of .ensures))),
     )
 
 slice-aggregate-items : tie.Need-slice-aggregate-items Inv-loop μ-loop
@@ -199,7 +200,7 @@ items-requires : tie.Need-items-requires Inv-loop μ-loop
 items-requires c κs =
     let o = c .before .before .before .loop in
     let s : tie.Start Inv-loop μ-loop = c .before .before .before .before .before .before .before .before .before .before .before in
-    (o .inv .1, omega arith, omega arith, o .inv .3, o .inv .4, λ j h. o .inv .5 j (omega arith), s .pre .2, s .pre .3, s .pre .4)
+    (o .inv .1, omega arith, s .pre .2, s .pre .3, s .pre .4, (omega arith, o .inv .4, o .inv .3, λ j h. o .inv .5 j (omega arith)))
 
 slice-aggregate-items-3 : tie.Need-slice-aggregate-items-3 Inv-loop μ-loop
 slice-aggregate-items-3 c = search needs
@@ -211,10 +212,10 @@ items-requires-2 : tie.Need-items-requires-2 Inv-loop μ-loop
 items-requires-2 c κs =
     let o = c .before .before .before .before .before .before .loop in
     let s : tie.Start Inv-loop μ-loop = c .before .before .before .before .before .before .before .before .before .before .before .before .before .before in
-    (omega arith, omega arith, omega arith, o .inv .3, o .inv .4, λ j h. o .inv .5 j (omega arith), s .pre .2, s .pre .3, s .pre .4)
+    (omega arith, omega arith, s .pre .2, s .pre .3, s .pre .4, (omega arith, o .inv .4, o .inv .3, λ j h. o .inv .5 j (omega arith)))
 
 returns-4 : tie.Need-returns-4 Inv-loop μ-loop
-returns-4 c none ks e g h =
+returns-4 c ks h =
     let x = c .before .before .before in
     let o = c .before .before .before .before .before .before .before .loop in
     let p : tie.Else2 Inv-loop μ-loop = c .before .before .before .before .before .before .before .before in
@@ -222,9 +223,13 @@ returns-4 c none ks e g h =
     let a = start p .args in
     let m : o .i ≡ a .t7 .len + a .t8 .len = omega arith in
     let fs = join (a .t7) (a .t8) in
-    let all = subst (λ i. Named ks fs i (o .named) (o .keys)) m (o .inv .6 ks e g h) in
-    resolved-by l ks (x .items .result) (c .items2 .result) (x .items .ensures none ks fs all (sym (long-join l)) (first-part l) (g .sized) (g .ranked) (g .basic)) (c .items2 .ensures none ks fs all (sym (long-join l)) (second-part l) (g .sized) (g .ranked) (g .basic))
-    ∙ ap (λ n. resolvedOf ks (both n (a .t7) (a .t8))) e
+    let all : Counts ks fs (a .t7 .len + a .t8 .len) (o .named) (o .keys) (a .ranks .now) = record { all = sym (long-join l); named = subst (λ i. Named ks fs i (o .named) (o .keys)) m (o .inv .6 ks h); ranked = h .paged .ranked } in
+    let sized = h .paged .sized in
+    let basic = h .paged .basic in
+    resolved-by l ks (x .items .result) (c .items2 .result)
+    (x .items .ensures ks fs (record { counts = all; empty = h .empty; part = first-part l; sized = sized; basic = basic }))
+    (c .items2 .ensures ks fs (record { counts = all; empty = h .empty; part = second-part l; sized = sized; basic = basic }))
+    ∙ ap (λ n. resolvedOf ks (both n (a .t7) (a .t8))) (h .all)
 
 pub resolve-spec : {M : Type 1} → statement M
 resolve-spec =

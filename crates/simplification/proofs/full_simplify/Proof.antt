@@ -1,8 +1,7 @@
 -- `full_simplify` meets its contract.
 use borrow.Author.Needs.{needs}
-use mathlib.Core.Path.{ap, _∙_}
 use Rattle.tables.proofs.Telling.{blank-new}
-use Rattle.lists.specs.Opening.{baseRows, opening, openedOf}
+use Rattle.lists.proofs.Ready.{beside}
 use Rattle.simplification.proofs.full_simplify.Statement.{statement}
 use Rattle.simplification.proofs.full_simplify.Tie as tie
 
@@ -32,7 +31,7 @@ returns c =
     let o = c .before .before .before .before .before in
     let none = o .before .before .before in
     let s = none .before .before .args in
-    c .full-simplify-over .ensures (s .rows) (o .open-lists .ensures .0 ∙ ap (λ b. openedOf (baseRows (s .rows)) (opening (s .rows) (s .q .unit) b)) (none .empty .ensures)) (o .open-lists .ensures .1)
+    c .full-simplify-over .ensures (s .rows) (beside (none .empty .ensures) (o .open-lists .ensures))
 
 pub full-simplify-spec : {M : Type 1} → statement M
 full-simplify-spec = tie.close (tie.spec empty-requires slice-aggregate-open-lists slice-aggregate-open-lists-2 open-lists-requires slice-aggregate-full-simplify-over slice-aggregate-full-simplify-over-2 full-simplify-over-requires returns)

@@ -26,7 +26,7 @@ returns : tie.Need-returns
 returns c =
     let o = c .before .before .before .before .before in
     let s = o .before .before .before .before .before .args in
-    c .add-over .ensures (s .rows) (o .open-lists .ensures .0) (o .open-lists .ensures .1)
+    c .add-over .ensures (s .rows) (o .open-lists .ensures)
 
 pub add-spec : {M : Type 1} → statement M
 add-spec = tie.close (tie.spec slice-aggregate-open-lists slice-aggregate-open-lists-2 open-lists-requires slice-aggregate-add-over slice-aggregate-add-over-2 add-over-requires returns)

@@ -4,7 +4,7 @@ use mathlib.Core.Path.{sym, ap, _∙_}
 use mathlib.Core.Bool.{false}
 use Rattle.values.specs.Quantities.{made, answeredOf}
 use Rattle.sums.specs.Calls.{add}
-use Rattle.quantities.proofs.Ready.{ready, seen}
+use Rattle.lists.proofs.Ready.{ready, seen}
 use Rattle.values.proofs.Answered.{unanswered}
 use Rattle.sums.proofs.Adding.{sum-stopped, first-zero, second-zero, no-zero}
 use Rattle.sums.proofs.add_over.Statement.{statement}
@@ -15,9 +15,9 @@ refused-requires c κs = search needs
 
 returns : tie.Need-returns
 unfolding add
-returns c rows opened tells =
+returns c rows opens =
     let s = c .before .before .before .before .args in
-    c .refused .ensures ∙ unanswered _ _ (sum-stopped rows false (made (s .p .mark) (s .p .value)) (s .q) (s .p) (s .o) opened (c .before .if1 .taken))
+    c .refused .ensures ∙ unanswered _ _ (sum-stopped rows false (made (s .p .mark) (s .p .value)) (s .q) (s .p) (s .o) (opens .is) (c .before .if1 .taken))
 
 is-zero-requires : tie.Need-is-zero-requires
 is-zero-requires c κs = search needs
@@ -30,12 +30,12 @@ with-mark-requires c κs = search needs
 
 returns-2 : tie.Need-returns-2
 unfolding add
-returns-2 c rows opened tells =
+returns-2 c rows opens =
     let z = c .before .before .before in
     let d = z .before .before .before .before in
     let s = d .before .before .before .args in
-    let r = ready rows (s .q .unit) (s .p .unit) (s .o) opened (d .if1 .left) in
-    c .with-mark .ensures (r .gs) (c .before .factors-of .ensures (seen r) (r .gs) (r .second) (r .second-short))
+    let r = ready rows (s .q .unit) (s .p .unit) (s .o) (opens .is) (d .if1 .left) in
+    c .with-mark .ensures (r .gs) (c .before .factors-of .ensures (seen r) (r .gs) (r .second))
     ∙ ap answeredOf (first-zero rows false (made (s .p .mark) (s .p .value)) (s .q) (s .p) (s .o) r (sym (z .is-zero .ensures) ∙ c .before .before .if2 .taken))
 
 is-zero-requires-2 : tie.Need-is-zero-requires-2
@@ -49,13 +49,13 @@ with-mark-requires-2 c κs = search needs
 
 returns-3 : tie.Need-returns-3
 unfolding add
-returns-3 c rows opened tells =
+returns-3 c rows opens =
     let z = c .before .before .before in
     let w = z .before .before in
     let d = w .before .before .before .before in
     let s = d .before .before .before .args in
-    let r = ready rows (s .q .unit) (s .p .unit) (s .o) opened (d .if1 .left) in
-    c .with-mark2 .ensures (r .fs) (c .before .factors-of2 .ensures (seen r) (r .fs) (r .first) (r .first-short))
+    let r = ready rows (s .q .unit) (s .p .unit) (s .o) (opens .is) (d .if1 .left) in
+    c .with-mark2 .ensures (r .fs) (c .before .factors-of2 .ensures (seen r) (r .fs) (r .first))
     ∙ ap answeredOf (second-zero rows false (made (s .p .mark) (s .p .value)) (s .q) (s .p) (s .o) r (sym (w .is-zero .ensures) ∙ z .before .if2 .left) (sym (z .is-zero2 .ensures) ∙ c .before .before .if3 .taken))
 
 nonzero-sum-requires : tie.Need-nonzero-sum-requires
@@ -63,13 +63,13 @@ nonzero-sum-requires c κs = search needs
 
 returns-4 : tie.Need-returns-4
 unfolding add
-returns-4 c rows opened tells =
+returns-4 c rows opens =
     let z = c .before .before in
     let w = z .before .before in
     let d = w .before .before .before .before in
     let s = d .before .before .before .args in
-    let r = ready rows (s .q .unit) (s .p .unit) (s .o) opened (d .if1 .left) in
-    no-zero rows false (made (s .p .mark) (s .p .value)) (s .q) (s .p) (s .o) r (sym (w .is-zero .ensures) ∙ z .before .if2 .left) (s .nums .now) (s .dens .now) tells (c .nonzero-sum .result) (sym (z .is-zero2 .ensures) ∙ c .before .if3 .left) (c .nonzero-sum .ensures)
+    let r = ready rows (s .q .unit) (s .p .unit) (s .o) (opens .is) (d .if1 .left) in
+    no-zero rows false (made (s .p .mark) (s .p .value)) (s .q) (s .p) (s .o) r (sym (w .is-zero .ensures) ∙ z .before .if2 .left) (s .nums .now) (s .dens .now) (opens .tells) (c .nonzero-sum .result) (sym (z .is-zero2 .ensures) ∙ c .before .if3 .left) (c .nonzero-sum .ensures)
 
 pub add-over-spec : {M : Type 1} → statement M
 add-over-spec =

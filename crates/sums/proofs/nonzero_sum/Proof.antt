@@ -4,17 +4,15 @@ use mathlib.Core.Path.{sym, ap, _∙_}
 use mathlib.Core.Bool.{true, false}
 use Rattle.exponents.specs.Outcome.{given}
 use Rattle.exponents.proofs.Holds.{bind-given}
-use Rattle.tables.specs.Scale.{sizeBy}
-use Rattle.tables.specs.Items.{viewBases}
-use Rattle.canonical.specs.Order.{byPlace}
+use Rattle.tables.specs.Held.{rulesBy}
 use Rattle.canonical.specs.Equality.{equal}
 use Rattle.reduction.specs.Reduction.{smallerUnit}
 use Rattle.lists.proofs.Ends.{bind-refuses}
 use Rattle.values.specs.Quantities.{fresh, answeredOf}
 use Rattle.sums.specs.Sums as sums
 use Rattle.values.proofs.Answered.{unanswered}
-use Rattle.quantities.proofs.Converting.{refuses-as}
-use Rattle.sums.proofs.Adding.{judged-so, chosen-so, sum-chosen}
+use Rattle.quantities.proofs.Converting.{judged-so, refuses-as}
+use Rattle.sums.proofs.Adding.{chosen-so, sum-chosen}
 use Rattle.sums.proofs.nonzero_sum.Statement.{statement}
 use Rattle.sums.proofs.nonzero_sum.Tie as tie
 
@@ -65,55 +63,55 @@ refused-requires-2 c κs = search needs
 
 returns : tie.Need-returns
 unfolding sums.nonzeroSum
-returns c v lent fs gs ea eb lf lg ln sf sg =
+returns c v fs gs lends ra rb =
     let k = c .before .before .before .before .before in
-    let same = judged-so (equal (byPlace v) fs gs) _ _ (k .equal .ensures v fs gs ea eb lf lg) (c .before .before .before .enum-told .given .1) in
-    c .with-mark .ensures fs (c .before .before .factors-of .ensures v fs ea lf)
+    let same = judged-so (equal (v .order) fs gs) _ _ (k .equal .ensures v fs gs ra rb) (c .before .before .before .enum-told .given .1) in
+    c .with-mark .ensures fs (c .before .before .factors-of .ensures v fs ra)
     ∙ ap (λ z. answeredOf (given (fresh z fs))) (c .before .combined .ensures)
     ∙ ap answeredOf (sym (bind-given _ same))
 
 returns-2 : tie.Need-returns-2
 unfolding sums.nonzeroSum
-returns-2 c v lent fs gs ea eb lf lg ln sf sg =
+returns-2 c v fs gs lends ra rb =
     let m = c .before .before .before in
     let k = m .before .before .before in
     let s = k .before .before .args in
-    let differ = judged-so (equal (byPlace v) fs gs) _ _ (k .equal .ensures v fs gs ea eb lf lg) (m .before .enum-told2 .given .1) in
-    let o = smallerUnit (viewBases v (s .n)) (sizeBy (v .scale)) fs gs in
-    let w = m .smaller-unit .ensures v lent fs gs ea eb lf lg ln sf sg in
+    let differ = judged-so (equal (v .order) fs gs) _ _ (k .equal .ensures v fs gs ra rb) (m .before .enum-told2 .given .1) in
+    let o = smallerUnit (rulesBy v (s .n)) fs gs in
+    let w = m .smaller-unit .ensures v fs gs lends ra rb in
     let first = chosen-so o _ _ w (c .before .enum-told3 .given .1) in
-    sum-chosen (byPlace v) (viewBases v (s .n)) (sizeBy (v .scale)) (s .minus) (s .x) (s .y) fs gs true (c .together .result) differ first (c .together .ensures v lent fs gs fs ea eb ea lf lg lf ln sf sg sf)
+    sum-chosen (rulesBy v (s .n)) (s .minus) (s .x) (s .y) fs gs true (c .together .result) differ first (c .together .ensures v fs gs fs lends ra rb ra)
 
 returns-3 : tie.Need-returns-3
 unfolding sums.nonzeroSum
-returns-3 c v lent fs gs ea eb lf lg ln sf sg =
+returns-3 c v fs gs lends ra rb =
     let m = c .before .before .before in
     let k = m .before .before .before in
     let s = k .before .before .args in
-    let differ = judged-so (equal (byPlace v) fs gs) _ _ (k .equal .ensures v fs gs ea eb lf lg) (m .before .enum-told2 .given .1) in
-    let o = smallerUnit (viewBases v (s .n)) (sizeBy (v .scale)) fs gs in
-    let w = m .smaller-unit .ensures v lent fs gs ea eb lf lg ln sf sg in
+    let differ = judged-so (equal (v .order) fs gs) _ _ (k .equal .ensures v fs gs ra rb) (m .before .enum-told2 .given .1) in
+    let o = smallerUnit (rulesBy v (s .n)) fs gs in
+    let w = m .smaller-unit .ensures v fs gs lends ra rb in
     let second = chosen-so o _ _ w (c .before .enum-told4 .given .1) in
-    sum-chosen (byPlace v) (viewBases v (s .n)) (sizeBy (v .scale)) (s .minus) (s .x) (s .y) fs gs false (c .together2 .result) differ second (c .together2 .ensures v lent fs gs gs ea eb eb lf lg lg ln sf sg sg)
+    sum-chosen (rulesBy v (s .n)) (s .minus) (s .x) (s .y) fs gs false (c .together2 .result) differ second (c .together2 .ensures v fs gs gs lends ra rb rb)
 
 returns-4 : tie.Need-returns-4
 unfolding sums.nonzeroSum
-returns-4 c v lent fs gs ea eb lf lg ln sf sg =
+returns-4 c v fs gs lends ra rb =
     let m = c .before .before .before .before in
     let k = m .before .before .before in
     let s = k .before .before .args in
-    let differ = judged-so (equal (byPlace v) fs gs) _ _ (k .equal .ensures v fs gs ea eb lf lg) (m .before .enum-told2 .given .1) in
-    let o = smallerUnit (viewBases v (s .n)) (sizeBy (v .scale)) fs gs in
-    let w = m .smaller-unit .ensures v lent fs gs ea eb lf lg ln sf sg in
+    let differ = judged-so (equal (v .order) fs gs) _ _ (k .equal .ensures v fs gs ra rb) (m .before .enum-told2 .given .1) in
+    let o = smallerUnit (rulesBy v (s .n)) fs gs in
+    let w = m .smaller-unit .ensures v fs gs lends ra rb in
     let neither = chosen-so o _ _ w (c .before .before .w .given .1) in
     c .refused .ensures ∙ unanswered _ _ (refuses-as _ _ _ (bind-given _ differ) (bind-refuses o _ _ neither))
 
 returns-5 : tie.Need-returns-5
 unfolding sums.nonzeroSum
-returns-5 c v lent fs gs ea eb lf lg ln sf sg =
+returns-5 c v fs gs lends ra rb =
     let k = c .before .before .before .before in
-    let unknown = judged-so (equal (byPlace v) fs gs) _ _ (k .equal .ensures v fs gs ea eb lf lg) (c .before .before .e .given .1) in
-    c .refused2 .ensures ∙ unanswered _ _ (bind-refuses (equal (byPlace v) fs gs) _ _ unknown)
+    let unknown = judged-so (equal (v .order) fs gs) _ _ (k .equal .ensures v fs gs ra rb) (c .before .before .e .given .1) in
+    c .refused2 .ensures ∙ unanswered _ _ (bind-refuses (equal (v .order) fs gs) _ _ unknown)
 
 pub nonzero-sum-spec : {M : Type 1} → statement M
 nonzero-sum-spec =

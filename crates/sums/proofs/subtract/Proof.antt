@@ -26,7 +26,7 @@ returns : tie.Need-returns
 returns c =
     let o = c .before .before .before .before .before in
     let s = o .before .before .before .before .before .args in
-    c .subtract-over .ensures (s .rows) (o .open-lists .ensures .0) (o .open-lists .ensures .1)
+    c .subtract-over .ensures (s .rows) (o .open-lists .ensures)
 
 pub subtract-spec : {M : Type 1} → statement M
 subtract-spec = tie.close (tie.spec slice-aggregate-open-lists slice-aggregate-open-lists-2 open-lists-requires slice-aggregate-subtract-over slice-aggregate-subtract-over-2 subtract-over-requires returns)

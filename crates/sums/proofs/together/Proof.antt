@@ -1,15 +1,9 @@
 -- `together` meets its contract.
 use borrow.Author.Needs.{needs}
 use mathlib.Core.Path.{sym, ap, _∙_}
-use mathlib.Core.List.{List}
-use Prim.Native.Nat.{ℕ}
-use lib.Ieee.{Float}
-use Rattle.exponents.specs.Outcome.{Outcome, given, map}
+use Rattle.exponents.specs.Outcome.{given, apply}
 use Rattle.exponents.proofs.Holds.{bind-given}
-use Rattle.units.specs.declared.Factor.{Factor}
-use Rattle.tables.specs.Scale.{binary64, sizeBy}
-use Rattle.tables.specs.Items.{View, viewBases}
-use Rattle.canonical.specs.Order.{byPlace}
+use Rattle.tables.specs.Held.{rulesBy}
 use Rattle.lists.proofs.Ends.{bind-refuses}
 use Rattle.conversion.specs.Conversion.{convert}
 use Rattle.values.specs.Quantities.{fresh, answeredOf}
@@ -18,9 +12,6 @@ use Rattle.values.proofs.Answered.{unanswered}
 use Rattle.quantities.proofs.Converting.{value-given, value-refused, map-refuses, refuses-as}
 use Rattle.sums.proofs.together.Statement.{statement}
 use Rattle.sums.proofs.together.Tie as tie
-
-abbrev converted : View → ℕ → List Factor → List Factor → Float → Outcome Float
-converted v n = convert (byPlace v) (viewBases v n) binary64 (sizeBy (v .scale))
 
 convert-requires : tie.Need-convert-requires
 convert-requires c κs = search needs
@@ -39,11 +30,11 @@ refused-requires c κs = search needs
 
 returns : tie.Need-returns
 unfolding sums.together
-returns c v lent fs gs hs ea eb eu lf lg lh ln sf sg sh =
+returns c v fs gs hs lends ra rb ru =
     let k = c .before .before .before .before in
     let s = k .before .before .args in
-    let o = converted v (s .n) fs hs (s .x) in
-    let e = k .convert .ensures v lent fs hs ea eu lf lh ln sf sh in
+    let o = convert (rulesBy v (s .n)) fs hs (s .x) in
+    let e = k .convert .ensures v fs hs lends ra ru in
     let n = value-refused o (k .convert .result) e _ _ (c .before .before .enum-told .given .1) (c .before .refusal-of .ensures) in
     c .refused .ensures ∙ unanswered _ _ (bind-refuses o _ _ n)
 
@@ -64,16 +55,16 @@ refused-requires-2 c κs = search needs
 
 returns-2 : tie.Need-returns-2
 unfolding sums.together
-returns-2 c v lent fs gs hs ea eb eu lf lg lh ln sf sg sh =
+returns-2 c v fs gs hs lends ra rb ru =
     let k′ = c .before .before .before .before in
     let k = k′ .before .before .before .before in
     let s = k .before .before .args in
-    let o = converted v (s .n) fs hs (s .x) in
-    let e = k .convert .ensures v lent fs hs ea eu lf lh ln sf sh in
+    let o = convert (rulesBy v (s .n)) fs hs (s .x) in
+    let e = k .convert .ensures v fs hs lends ra ru in
     let y = k′ .before .before .c .given in
     let g = value-given o (k .convert .result) e (y .0 .0) (y .1) in
-    let o′ = converted v (s .n) gs hs (s .y) in
-    let e′ = k′ .convert2 .ensures v lent gs hs eb eu lg lh ln sg sh in
+    let o′ = convert (rulesBy v (s .n)) gs hs (s .y) in
+    let e′ = k′ .convert2 .ensures v gs hs lends rb ru in
     let n = value-refused o′ (k′ .convert2 .result) e′ _ _ (c .before .before .enum-told2 .given .1) (c .before .refusal-of2 .ensures) in
     c .refused2 .ensures ∙ unanswered _ _ (refuses-as _ _ _ (bind-given _ g) (map-refuses (λ b. fresh (sums.combined (s .minus) (y .0 .0) b) hs) o′ _ n))
 
@@ -88,21 +79,21 @@ with-mark-requires c κs = search needs
 
 returns-3 : tie.Need-returns-3
 unfolding sums.together
-returns-3 c v lent fs gs hs ea eb eu lf lg lh ln sf sg sh =
+returns-3 c v fs gs hs lends ra rb ru =
     let k′ = c .before .before .before .before .before .before in
     let k = k′ .before .before .before .before in
     let s = k .before .before .args in
-    let o = converted v (s .n) fs hs (s .x) in
-    let e = k .convert .ensures v lent fs hs ea eu lf lh ln sf sh in
+    let o = convert (rulesBy v (s .n)) fs hs (s .x) in
+    let e = k .convert .ensures v fs hs lends ra ru in
     let y = k′ .before .before .c .given in
     let g = value-given o (k .convert .result) e (y .0 .0) (y .1) in
-    let o′ = converted v (s .n) gs hs (s .y) in
-    let e′ = k′ .convert2 .ensures v lent gs hs eb eu lg lh ln sg sh in
+    let o′ = convert (rulesBy v (s .n)) gs hs (s .y) in
+    let e′ = k′ .convert2 .ensures v gs hs lends rb ru in
     let y′ = c .before .before .before .before .d .given in
     let g′ = value-given o′ (k′ .convert2 .result) e′ (y′ .0 .0) (y′ .1) in
-    c .with-mark .ensures hs (c .before .before .factors-of .ensures v hs eu lh)
+    c .with-mark .ensures hs (c .before .before .factors-of .ensures v hs ru)
     ∙ ap (λ z. answeredOf (given (fresh z hs))) (c .before .combined .ensures)
-    ∙ ap answeredOf (sym (bind-given (λ a. map (λ b. fresh (sums.combined (s .minus) a b) hs) o′) g ∙ ap (map (λ b. fresh (sums.combined (s .minus) (y .0 .0) b) hs)) g′))
+    ∙ ap answeredOf (sym (bind-given (λ a. apply (λ b. fresh (sums.combined (s .minus) a b) hs) o′) g ∙ ap (apply (λ b. fresh (sums.combined (s .minus) (y .0 .0) b) hs)) g′))
 
 pub together-spec : {M : Type 1} → statement M
 together-spec =

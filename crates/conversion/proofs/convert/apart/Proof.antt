@@ -4,8 +4,7 @@ use mathlib.Core.Path.{refl, sym, _∙_}
 use borrow.Author.Tests.{not-true, not-false}
 use Rattle.exponents.specs.Outcome.{given}
 use Rattle.tables.specs.Lists.{base}
-use Rattle.tables.specs.Scale.{binary64, sizeBy}
-use Rattle.tables.specs.Items.{viewBases}
+use Rattle.tables.specs.Held.{rulesBy}
 use Rattle.reduction.proofs.Handed.{exps-given, exps-refused}
 use Rattle.conversion.proofs.Converting.{seen-same, own-range, target-range, units-differ, units-same}
 use Rattle.conversion.proofs.convert.apart.Statement.{statement}
@@ -15,36 +14,36 @@ base-of-requires : tie.Need-base-of-requires
 base-of-requires c κs = search needs
 
 returns : tie.Need-returns
-returns c v lent fs gs e f h i k p q =
+returns c v fs gs lends rl rm =
     let x = c .before .before in
-    let bs = viewBases v (x .before .before .args .n) in
-    own-range binary64 (sizeBy (v .scale)) bs fs (given gs) (x .before .before .args .x) _ (exps-refused (base bs fs) (x .base-of .result) (x .base-of .ensures v lent fs e h k p) (c .if1 .taken))
+    let R = rulesBy v (x .before .before .args .n) in
+    own-range R fs (given gs) (x .before .before .args .x) _ (exps-refused (base (R .bases) fs) (x .base-of .result) (x .base-of .ensures v fs lends rl) (c .if1 .taken))
 
 base-of-requires-2 : tie.Need-base-of-requires-2
 base-of-requires-2 c κs = search needs
 
 returns-2 : tie.Need-returns-2
-returns-2 c v lent fs gs e f h i k p q =
+returns-2 c v fs gs lends rl rm =
     let y = c .before .before in
     let x = y .before .before .before in
-    let bs = viewBases v (x .before .before .args .n) in
-    let a = exps-given (base bs fs) (x .base-of .result) (x .base-of .ensures v lent fs e h k p) (y .before .if1 .left) in
-    target-range binary64 (sizeBy (v .scale)) bs fs (given gs) (x .before .before .args .x) (a .exps) (a .is) gs refl _ (exps-refused (base bs gs) (y .base-of2 .result) (y .base-of2 .ensures v lent gs f i k q) (c .if2 .taken))
+    let R = rulesBy v (x .before .before .args .n) in
+    let a = exps-given (base (R .bases) fs) (x .base-of .result) (x .base-of .ensures v fs lends rl) (y .before .if1 .left) in
+    target-range R fs (given gs) (x .before .before .args .x) (a .exps) (a .is) gs refl _ (exps-refused (base (R .bases) gs) (y .base-of2 .result) (y .base-of2 .ensures v gs lends rm) (c .if2 .taken))
 
 same-exponents-requires : tie.Need-same-exponents-requires
 same-exponents-requires c κs = search needs
 
 returns-3 : tie.Need-returns-3
-returns-3 c v lent fs gs e f h i k p q =
+returns-3 c v fs gs lends rl rm =
     let u = c .before in
     let y = u .before .before .before .before .before in
     let x = y .before .before .before in
     let n = x .before .before .args .n in
-    let bs = viewBases v n in
-    let a = exps-given (base bs fs) (x .base-of .result) (x .base-of .ensures v lent fs e h k p) (y .before .if1 .left) in
-    let b = exps-given (base bs gs) (y .base-of2 .result) (y .base-of2 .ensures v lent gs f i k q) (u .before .before .before .if2 .left) in
+    let R = rulesBy v n in
+    let a = exps-given (base (R .bases) fs) (x .base-of .result) (x .base-of .ensures v fs lends rl) (y .before .if1 .left) in
+    let b = exps-given (base (R .bases) gs) (y .base-of2 .result) (y .base-of2 .ensures v gs lends rm) (u .before .before .before .if2 .left) in
     let d = sym (seen-same v n fs gs (a .exps) (b .exps) _ _ (a .is) (b .is) (a .at) (b .at)) ∙ sym (u .same-exponents .ensures) in
-    units-differ binary64 (sizeBy (v .scale)) bs fs (given gs) (x .before .before .args .x) (a .exps) (a .is) gs refl (b .exps) (b .is) (d ∙ not-true _ (c .if3 .taken))
+    units-differ R fs (given gs) (x .before .before .args .x) (a .exps) (a .is) gs refl (b .exps) (b .is) (d ∙ not-true _ (c .if3 .taken))
 
 scale-from-requires : tie.Need-scale-from-requires
 scale-from-requires c κs = search needs
@@ -53,18 +52,18 @@ rescaled-requires : tie.Need-rescaled-requires
 rescaled-requires c κs = search needs
 
 returns-4 : tie.Need-returns-4
-returns-4 c v lent fs gs e f h i k p q =
+returns-4 c v fs gs lends rl rm =
     let w = c .before in
     let u = w .before .before in
     let y = u .before .before .before .before .before in
     let x = y .before .before .before in
     let n = x .before .before .args .n in
-    let bs = viewBases v n in
-    let a = exps-given (base bs fs) (x .base-of .result) (x .base-of .ensures v lent fs e h k p) (y .before .if1 .left) in
-    let b = exps-given (base bs gs) (y .base-of2 .result) (y .base-of2 .ensures v lent gs f i k q) (u .before .before .before .if2 .left) in
+    let R = rulesBy v n in
+    let a = exps-given (base (R .bases) fs) (x .base-of .result) (x .base-of .ensures v fs lends rl) (y .before .if1 .left) in
+    let b = exps-given (base (R .bases) gs) (y .base-of2 .result) (y .base-of2 .ensures v gs lends rm) (u .before .before .before .if2 .left) in
     let d = sym (seen-same v n fs gs (a .exps) (b .exps) _ _ (a .is) (b .is) (a .at) (b .at)) ∙ sym (u .same-exponents .ensures) in
-    c .rescaled .ensures v fs gs (w .scale-from .ensures v fs e h) f i
-    ∙ units-same binary64 (sizeBy (v .scale)) bs fs (given gs) (x .before .before .args .x) (a .exps) (a .is) gs refl (b .exps) (b .is) (d ∙ not-false _ (w .before .if3 .left))
+    c .rescaled .ensures v n fs gs (w .scale-from .ensures v fs rl) rm
+    ∙ units-same R fs (given gs) (x .before .before .args .x) (a .exps) (a .is) gs refl (b .exps) (b .is) (d ∙ not-false _ (w .before .if3 .left))
 
 pub apart-spec : {M : Type 1} → statement M
 apart-spec =

@@ -1,8 +1,7 @@
 -- `canonical` meets its contract.
 use borrow.Author.Needs.{needs}
-use mathlib.Core.Path.{ap, _∙_}
 use Rattle.tables.proofs.Telling.{blank-new}
-use Rattle.lists.specs.Opening.{baseRows, opening, openedOf}
+use Rattle.lists.proofs.Ready.{beside}
 use Rattle.lists.proofs.forms.canonical.Statement.{statement}
 use Rattle.lists.proofs.forms.canonical.Tie as tie
 
@@ -26,7 +25,7 @@ returns c =
     let o = c .before .before .before in
     let none = o .before .before .before in
     let s = none .before .args in
-    c .canonical-over .ensures (s .rows) (s .l) (o .open-lists .ensures .0 ∙ ap (λ b. openedOf (baseRows (s .rows)) (opening (s .rows) (s .l) b)) (none .empty .ensures))
+    c .canonical-over .ensures (s .rows) (s .l) (beside (none .empty .ensures) (o .open-lists .ensures) .is)
 
 pub canonical-spec : {M : Type 1} → statement M
 canonical-spec = tie.close (tie.spec empty-requires slice-aggregate-open-lists slice-aggregate-open-lists-2 open-lists-requires canonical-over-requires returns)

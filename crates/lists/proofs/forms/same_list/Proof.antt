@@ -20,7 +20,7 @@ returns : tie.Need-returns
 returns c =
     let o = c .before .before .before in
     let s = o .before .before .before .args in
-    c .same-list-over .ensures (s .rows) (s .a) (s .b) (o .open-lists .ensures .0)
+    c .same-list-over .ensures (s .rows) (s .a) (s .b) (o .open-lists .ensures .is)
 
 pub same-list-spec : {M : Type 1} → statement M
 same-list-spec = tie.close (tie.spec slice-aggregate-open-lists slice-aggregate-open-lists-2 open-lists-requires same-list-over-requires returns)

@@ -6,14 +6,12 @@ use mathlib.Core.List.{List}
 use Rattle.exponents.specs.Outcome.{Outcome}
 use Rattle.units.specs.declared.Factor.{Factor}
 use Rattle.tables.specs.Rows.{Facts}
-use Rattle.canonical.specs.Order.{orderIn}
+use Rattle.tables.specs.Order.{orderIn}
 use Rattle.canonical.specs.Equality.{equal, verdictOf}
 use Rattle.canonical.specs.declared.equality.Verdict.the-variants as verdict
-use Rattle.lists.specs.Opening.{baseRows}
 use Rattle.lists.specs.Calls.{sameLists}
-use Rattle.lists.proofs.Checks.{open-by, unopened-by, call-refuses, call-goes, lists-known}
 use Rattle.lists.proofs.Ends.{handed}
-use Rattle.lists.proofs.Views.{view, equal-agrees}
+use Rattle.lists.proofs.Ready.{ready, stopped, seen, goes}
 use Rattle.lists.proofs.forms.same_list_over.Statement.{statement}
 use Rattle.lists.proofs.forms.same_list_over.Tie as tie
 
@@ -24,7 +22,7 @@ returns : tie.Need-returns
 unfolding sameLists
 returns c rows a b e =
     let s = c .before .before .args in
-    handed verdict.Refused verdictOf (λ r. refl) _ _ (call-refuses rows a b work _ (unopened-by (baseRows rows) _ (s .o) e (c .if1 .taken)))
+    handed verdict.Refused verdictOf (λ r. refl) _ _ (stopped rows a b (s .o) e work (c .if1 .taken))
 
 equal-requires : tie.Need-equal-requires
 equal-requires c κs = search needs
@@ -34,10 +32,8 @@ unfolding sameLists
 returns-2 c rows a b e =
     let d = c .before .before .before in
     let s = d .before .before .args in
-    let o = open-by (baseRows rows) _ (s .o) e (d .if1 .left) in
-    let k = lists-known a b rows (o .are) (o .is) in
-    c .equal .ensures (view (o .are .rows) (o .are .first) (o .are .second)) (o .are .first) (o .are .second) (o .first) (o .second) (k .first-short) (k .second-short)
-    ∙ ap verdictOf (equal-agrees (o .are .rows) (o .are .first) (o .are .second) ∙ sym (call-goes rows a b work (o .are) (o .is)))
+    let r = ready rows a b (s .o) e (d .if1 .left) in
+    c .equal .ensures (seen r) (r .fs) (r .gs) (r .first) (r .second) ∙ ap verdictOf (sym (goes r work))
 
 pub same-list-over-spec : {M : Type 1} → statement M
 same-list-over-spec = tie.close (tie.spec returns equal-requires returns-2)

@@ -5,8 +5,7 @@ use Rattle.units.specs.Lists as lists
 use Rattle.units.specs.Lists.{refusedBy, madeOf}
 use Rattle.units.proofs.Checked.{goes-on}
 use Rattle.tables.specs.declared.Admitted.{Admitted}
-use Rattle.tables.specs.Rows.{admit}
-use Rattle.lists.specs.Opening.{known, table, baseRows}
+use Rattle.tables.specs.Rows.{admit, known, table, baseRows}
 use Rattle.lists.specs.Calls.{listPower}
 use Rattle.lists.proofs.Checks.{admitted-by, table-refuses}
 use Rattle.lists.proofs.Ends.{handed, bind-refuses}

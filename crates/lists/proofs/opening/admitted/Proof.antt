@@ -23,7 +23,7 @@ admit-requires : tie.Need-admit-requires
 admit-requires c κs = search (needs, blank-new)
 
 returns : tie.Need-returns
-returns c = c .before .before .before .before .before .admit .ensures .0
+returns c = c .before .before .before .before .before .admit .ensures .is
 
 pub admitted-spec : {M : Type 1} → statement M
 admitted-spec = tie.close (tie.spec slice-aggregate-admit slice-aggregate-admit-2 slice-aggregate-admit-3 slice-aggregate-admit-4 slice-aggregate-admit-5 admit-requires returns)

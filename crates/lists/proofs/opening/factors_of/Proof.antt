@@ -6,7 +6,7 @@ use Prim.Native.Nat.{_-_, _≤_}
 use native.Mathlib.Omega.{arith}
 use lib.ListN.{length, take}
 use Rattle.units.specs.Lists.{pack}
-use Rattle.tables.proofs.Terms.{unmapped}
+use Rattle.exponents.proofs.Words.{unmapped}
 use Rattle.canonical.proofs.Seen.{len-items}
 use Rattle.lists.proofs.Given.{factorOf, pushed, all-factors}
 use Rattle.lists.proofs.opening.factors_of.Statement.{statement}
@@ -59,12 +59,12 @@ loop-again c =
     (omega arith, pushed (s .args .t1 .at) (k .i) _ (k .o) (omega arith) (omega arith) (k .inv .1))
 
 returns : tie.Need-returns Inv-loop μ-loop
-returns c v fs e h =
+returns c v fs r =
     let k = c .before .loop in
     let m = c .before .before .before in
-    let n = len-items v fs (m .before .args .t1) e in
-    let same = m .capped .ensures .1 (omega arith) in
-    all-factors v fs (m .before .args .t1) e (k .i) (k .o) (omega arith) (k .inv .1)
+    let n = len-items v fs (m .before .args .t1) (r .is) in
+    let same = m .capped .ensures .1 (omega (arith, r .short)) in
+    all-factors v fs (m .before .args .t1) (r .is) (k .i) (k .o) (omega arith) (k .inv .1)
 
 pub factors-of-spec : {M : Type 1} → statement M
 factors-of-spec =

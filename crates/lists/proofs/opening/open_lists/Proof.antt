@@ -38,7 +38,7 @@ returns : tie.Need-returns
 returns c =
     let t = c .before .before .before .before .before .before .before .before .before .before .before .before in
     let rows = t .before .before .before .before .before .before .before .args .rows in
-    (c .open-over .ensures rows (t .admit .ensures .0) (t .admit .ensures .2), tells-of rows _ _ _ _ _ (t .admit .ensures .2))
+    record { is = c .open-over .ensures rows (t .admit .ensures); tells = tells-of rows _ _ _ _ _ (t .admit .ensures .pages) }
 
 pub open-lists-spec : {M : Type 1} → statement M
 open-lists-spec = tie.close (tie.spec slice-aggregate-admit slice-aggregate-admit-2 slice-aggregate-admit-3 admit-requires slice-aggregate-open-over slice-aggregate-open-over-2 slice-aggregate-open-over-3 open-over-requires same-length same-length-2 returns)

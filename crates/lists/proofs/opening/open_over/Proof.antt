@@ -6,12 +6,11 @@ use denote.Ref.{now}
 use Rattle.units.specs.declared.Rows.{Rows}
 use Rattle.units.specs.Lists.{both}
 use Rattle.tables.specs.declared.Admitted.{Admitted}
-use Rattle.tables.specs.Rows.{admit, Admission}
-use Rattle.tables.specs.Pages.{Pages, admittedOf}
-use Rattle.resolution.specs.Resolve.{noItems, resolvedOf}
+use Rattle.tables.specs.Rows.{admit, Admission, known, baseRows}
+use Rattle.tables.specs.Held.{Pages, Admits, noItems}
+use Rattle.resolution.specs.Held.{resolvedOf}
 use Rattle.resolution.proofs.Keyed.{admit-keyed}
-use Rattle.lists.specs.Opening.{known, baseRows}
-use Rattle.lists.proofs.Checks.{Admits, admitted-by, table-refuses, lists-refuse, table-stops, lists-stop, opens}
+use Rattle.lists.proofs.Checks.{Accepted, admitted-by, table-refuses, lists-refuse, table-stops, lists-stop, opens}
 use Rattle.lists.proofs.opening.open_over.Statement.{statement}
 use Rattle.lists.proofs.opening.open_over.Tie as tie
 
@@ -30,40 +29,48 @@ unopened-requires : tie.Need-unopened-requires
 unopened-requires c κs = search needs
 
 returns : tie.Need-returns
-returns c rows e p =
+returns c rows k =
     let s = begin (c .before .before) .args in
-    c .unopened .ensures (blank (c .before .before)) ∙ table-stops rows (s .a) (s .b) (baseRows rows) _ (table-refuses (baseRows rows) (admit rows) (s .t) e (c .before .if1 .taken))
+    c .unopened .ensures (blank (c .before .before)) ∙ table-stops rows (s .a) (s .b) (baseRows rows) _ (table-refuses (baseRows rows) (admit rows) (s .t) (k .is) (c .before .if1 .taken))
 
 resolve-requires : tie.Need-resolve-requires
 resolve-requires c κs = search needs
 
 -- a table that was admitted: its rows, and what is resolved over them
-module _ (c : tie.After-resolve) (rows : Rows) (e : begin (c .before .before) .args .t ≡ admittedOf (baseRows rows) (admit rows)) where
-  admits : Admits (baseRows rows) (admit rows) (begin (c .before .before) .args .t)
-  admits = admitted-by (baseRows rows) (admit rows) (begin (c .before .before) .args .t) e (c .before .if1 .left)
+abbrev Admission-of : tie.After-resolve → Rows → Type 0
+Admission-of c rows = let s = begin (c .before .before) .args in Admits rows (s .t) (now (s .nums)) (now (s .dens)) (now (s .scales)) (now (s .ranks)) (now (s .based))
 
-  resolved : let s = begin (c .before .before) .args in Pages (admit rows) (now (s .nums)) (now (s .dens)) (now (s .scales)) (now (s .ranks)) (now (s .based)) → c .resolve .result ≡ resolvedOf (admits .rows) (both (length (admits .rows)) (s .a) (s .b))
-  resolved p =
+module _ (c : tie.After-resolve) (rows : Rows) (k : Admission-of c rows) where
+  accepted : Accepted (baseRows rows) (admit rows) (begin (c .before .before) .args .t)
+  accepted = admitted-by (baseRows rows) (admit rows) (begin (c .before .before) .args .t) (k .is) (c .before .if1 .left)
+
+  resolved : let s = begin (c .before .before) .args in c .resolve .result ≡ resolvedOf (accepted .rows) (both (length (accepted .rows)) (s .a) (s .b))
+  resolved =
       let s = begin (c .before .before) .args in
-      c .resolve .ensures (blank (c .before .before)) (admits .rows) (ap (λ (y : Admitted). y .len) (admits .table)) (subst (λ (a : Admission). Pages a (now (s .nums)) (now (s .dens)) (now (s .scales)) (now (s .ranks)) (now (s .based))) (admits .is) p) (admit-keyed rows (admits .rows) (admits .is))
+      c .resolve .ensures (accepted .rows) (record {
+        all = ap (λ (y : Admitted). y .len) (accepted .table);
+        empty = blank (c .before .before);
+        paged = subst (λ (a : Admission). Pages a (now (s .nums)) (now (s .dens)) (now (s .scales)) (now (s .ranks)) (now (s .based))) (accepted .is) (k .pages);
+        keyed = admit-keyed rows (accepted .rows) (accepted .is);
+      })
 
 unopened-requires-2 : tie.Need-unopened-requires-2
 unopened-requires-2 c κs = search needs
 
 returns-2 : tie.Need-returns-2
-returns-2 c rows e p =
+returns-2 c rows k =
     let r = c .before .before .before in
     let s = begin (r .before .before) .args in
-    let k = admits r rows e in
-    c .unopened2 .ensures (blank (r .before .before)) ∙ lists-stop rows (s .a) (s .b) (baseRows rows) (k .rows) (ap known (k .is)) _ (lists-refuse (k .rows) _ (r .resolve .result) (resolved r rows e p) (c .before .if2 .taken))
+    let h = accepted r rows k in
+    c .unopened2 .ensures (blank (r .before .before)) ∙ lists-stop rows (s .a) (s .b) (h .rows) (ap known (h .is)) (baseRows rows) _ (lists-refuse (h .rows) _ (r .resolve .result) (resolved r rows k) (c .before .if2 .taken))
 
 returns-3 : tie.Need-returns-3
-returns-3 c rows e p =
+returns-3 c rows k =
     let d = c .before .before .before in
     let r = d .before .before in
     let s = begin (r .before .before) .args in
-    let k = admits r rows e in
-    opens rows (s .a) (s .b) (baseRows rows) (k .rows) (ap known (k .is)) (r .resolve .result) _ (resolved r rows e p) (d .if2 .left) (ap (λ (y : Admitted). y .slots) (k .table))
+    let h = accepted r rows k in
+    opens rows (s .a) (s .b) (h .rows) (ap known (h .is)) (baseRows rows) (r .resolve .result) _ (resolved r rows k) (d .if2 .left) (ap (λ (y : Admitted). y .slots) (h .table))
 
 pub open-over-spec : {M : Type 1} → statement M
 open-over-spec = tie.close (tie.spec no-items-requires unopened-requires returns resolve-requires unopened-requires-2 returns-2 returns-3)

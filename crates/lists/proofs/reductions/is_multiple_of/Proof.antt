@@ -26,7 +26,7 @@ returns : tie.Need-returns
 returns c =
     let o = c .before .before .before .before .before in
     let s = o .before .before .before .args in
-    c .is-multiple-of-over .ensures (s .rows) (s .a) (s .b) (o .open-lists .ensures .0) (o .open-lists .ensures .1)
+    c .is-multiple-of-over .ensures (s .rows) (s .a) (s .b) (o .open-lists .ensures)
 
 pub is-multiple-of-spec : {M : Type 1} → statement M
 is-multiple-of-spec = tie.close (tie.spec slice-aggregate-open-lists slice-aggregate-open-lists-2 open-lists-requires slice-aggregate-is-multiple-of-over slice-aggregate-is-multiple-of-over-2 is-multiple-of-over-requires returns)

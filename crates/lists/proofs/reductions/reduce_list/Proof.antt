@@ -1,8 +1,7 @@
 -- `reduce_list` meets its contract.
 use borrow.Author.Needs.{needs}
-use mathlib.Core.Path.{ap, _∙_}
 use Rattle.tables.proofs.Telling.{blank-new}
-use Rattle.lists.specs.Opening.{baseRows, opening, openedOf}
+use Rattle.lists.proofs.Ready.{beside}
 use Rattle.lists.proofs.reductions.reduce_list.Statement.{statement}
 use Rattle.lists.proofs.reductions.reduce_list.Tie as tie
 
@@ -32,7 +31,7 @@ returns c =
     let o = c .before .before .before .before .before in
     let none = o .before .before .before in
     let s = none .before .args in
-    c .reduce-list-over .ensures (s .rows) (s .l) (o .open-lists .ensures .0 ∙ ap (λ b. openedOf (baseRows (s .rows)) (opening (s .rows) (s .l) b)) (none .empty .ensures)) (o .open-lists .ensures .1)
+    c .reduce-list-over .ensures (s .rows) (s .l) (beside (none .empty .ensures) (o .open-lists .ensures))
 
 pub reduce-list-spec : {M : Type 1} → statement M
 reduce-list-spec = tie.close (tie.spec empty-requires slice-aggregate-open-lists slice-aggregate-open-lists-2 open-lists-requires slice-aggregate-reduce-list-over slice-aggregate-reduce-list-over-2 reduce-list-over-requires returns)

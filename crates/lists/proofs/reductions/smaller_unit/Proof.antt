@@ -26,7 +26,7 @@ returns : tie.Need-returns
 returns c =
     let o = c .before .before .before .before .before in
     let s = o .before .before .before .args in
-    c .smaller-unit-over .ensures (s .rows) (s .a) (s .b) (o .open-lists .ensures .0) (o .open-lists .ensures .1)
+    c .smaller-unit-over .ensures (s .rows) (s .a) (s .b) (o .open-lists .ensures)
 
 pub smaller-unit-spec : {M : Type 1} → statement M
 smaller-unit-spec = tie.close (tie.spec slice-aggregate-open-lists slice-aggregate-open-lists-2 open-lists-requires slice-aggregate-smaller-unit-over slice-aggregate-smaller-unit-over-2 smaller-unit-over-requires returns)

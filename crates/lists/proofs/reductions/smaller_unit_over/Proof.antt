@@ -1,36 +1,50 @@
 -- `smaller_unit_over` meets its contract.
 use borrow.Author.Needs.{needs}
-use mathlib.Core.Path.{refl, sym, ap, _∙_}
-use mathlib.Core.List.{List, _++_}
-use native.Mathlib.Omega.{arith}
-use Rattle.exponents.specs.Outcome.{Outcome, map}
+use mathlib.Core.Path.{_≡_, refl, sym, ap, _∙_}
+use mathlib.Core.List.{List}
+use mathlib.Core.Bool.{Bool}
+use denote.Ref.{now}
+use Rattle.exponents.specs.Words.{pick}
+use Rattle.exponents.specs.Outcome.{Outcome, apply}
 use Rattle.units.specs.declared.Factor.{Factor}
+use Rattle.units.specs.declared.Factors.{Factors}
 use Rattle.units.specs.declared.Rows.{Rows}
 use Rattle.units.specs.Lists.{refusedBy, madeOf}
-use Rattle.tables.specs.Scale.{sizeBy}
-use Rattle.tables.specs.Rows.{pick, Facts, scaleAt, rowsOf}
-use Rattle.tables.proofs.Slotting.{slots-few}
-use Rattle.reduction.specs.Reduction.{smallerUnit, smallerOf}
-use Rattle.lists.specs.Opening.{baseRows}
+use Rattle.tables.specs.Rows.{Facts}
+use Rattle.tables.specs.Rules.{rulesIn}
+use Rattle.reduction.specs.Reduction.{smallerUnit}
+use Rattle.reduction.specs.Held.{smallerOf}
+use Rattle.lists.specs.Held.{Opens}
 use Rattle.lists.specs.Calls as spec
-use Rattle.lists.specs.Calls.{basesIn}
-use Rattle.lists.proofs.Checks.{open-by, unopened-by, call-refuses, call-goes, lists-known}
-use Rattle.lists.proofs.Ends.{handed, first-chosen, second-chosen, neither-chosen, slots-len, bases-agree, lent-of}
-use Rattle.lists.proofs.Views.{view}
+use Rattle.lists.proofs.Ends.{handed, first-chosen, second-chosen, neither-chosen}
+use Rattle.lists.proofs.Ready.{Ready, ready, stopped, seen, goes, lends}
 use Rattle.lists.proofs.reductions.smaller_unit_over.Statement.{statement}
 use Rattle.lists.proofs.reductions.smaller_unit_over.Tie as tie
 
 abbrev work : Rows → List Facts → List Factor → List Factor → Outcome (List Factor)
-work t ks fs gs = map (λ first. pick first fs gs) (smallerUnit (basesIn t ks) (sizeBy (scaleAt ks)) fs gs)
+work t ks fs gs = apply (λ first. pick first fs gs) (smallerUnit (rulesIn t ks) fs gs)
 
 refused-requires : tie.Need-refused-requires
 refused-requires c κs = search needs
 
 returns : tie.Need-returns
 unfolding spec.smallerUnit
-returns c rows a b e tells =
+returns c rows a b o =
     let s = c .before .before .before .before .args in
-    c .refused .ensures ∙ handed refusedBy madeOf (λ r. refl) _ _ (call-refuses rows a b (work rows) _ (unopened-by (baseRows rows) _ (s .o) e (c .before .if1 .taken)))
+    c .refused .ensures ∙ handed refusedBy madeOf (λ r. refl) _ _ (stopped rows a b (s .o) (o .is) (work rows) (c .before .if1 .taken))
+
+-- which one is the smaller by the table's rules
+module _ (c : tie.After-smaller-unit) (rows : Rows) (a b : Factors) (o : let s = c .before .before .before .before .before .before .before .args in Opens rows a b (s .o) (now (s .nums)) (now (s .dens))) where
+  abbrev lists : Ready rows a b (c .before .before .before .before .before .before .before .args .o)
+  lists = ready rows a b (c .before .before .before .before .before .before .before .args .o) (o .is) (c .before .before .before .before .if1 .left)
+
+  abbrev first-smaller : Outcome Bool
+  first-smaller = smallerUnit (rulesIn rows (lists .ks)) (lists .fs) (lists .gs)
+
+  told : c .smaller-unit .result ≡ smallerOf first-smaller
+  told =
+      c .smaller-unit .ensures (seen lists) (lists .fs) (lists .gs) (lends lists _ _ (o .tells)) (lists .first) (lists .second)
+      ∙ ap (λ R. smallerOf (smallerUnit R (lists .fs) (lists .gs))) (lists .rules)
 
 smaller-unit-requires : tie.Need-smaller-unit-requires
 smaller-unit-requires c κs = search needs
@@ -55,57 +69,28 @@ refused-requires-2 c κs = search needs
 
 returns-2 : tie.Need-returns-2
 unfolding spec.smallerUnit
-returns-2 c rows a b e tells =
+returns-2 c rows a b o =
     let m = c .before .before .before in
-    let d = m .before .before .before .before in
-    let s = d .before .before .before .args in
-    let o = open-by (baseRows rows) _ (s .o) e (d .if1 .left) in
-    let k = lists-known a b rows (o .are) (o .is) in
-    let lent = lent-of a b rows (o .are) (o .is) _ _ tells in
-    let few = slots-few (rowsOf rows) in
-    let n = slots-len _ _ (o .slots) in
-    let v = view (o .are .rows) (o .are .first) (o .are .second) in
-    let w = m .smaller-unit .ensures v lent (o .are .first) (o .are .second) (o .first) (o .second) (k .first-short) (k .second-short) (omega arith) (k .first-shaped) (k .second-shaped)
-    ∙ ap (λ bs. smallerOf (smallerUnit bs (sizeBy (scaleAt (o .are .rows))) (o .are .first) (o .are .second))) (bases-agree rows (o .are .rows) (o .are .first ++ o .are .second) _ n) in
-    let q = smallerUnit (basesIn rows (o .are .rows)) (sizeBy (scaleAt (o .are .rows))) (o .are .first) (o .are .second) in
-    let same = sym (call-goes rows a b (work rows) (o .are) (o .is)) in
-    first-chosen q (o .are .first) (o .are .second) (c .factors-of .result) (sym w ∙ c .before .enum-told .given .1) (c .factors-of .ensures v (o .are .first) (o .first) (k .first-short)) ∙ ap madeOf same
+    let r = lists m rows a b o in
+    first-chosen (first-smaller m rows a b o) (r .fs) (r .gs) (c .factors-of .result) (sym (told m rows a b o) ∙ c .before .enum-told .given .1) (c .factors-of .ensures (seen r) (r .fs) (r .first))
+    ∙ ap madeOf (sym (goes r (work rows)))
 
 returns-3 : tie.Need-returns-3
 unfolding spec.smallerUnit
-returns-3 c rows a b e tells =
+returns-3 c rows a b o =
     let m = c .before .before .before in
-    let d = m .before .before .before .before in
-    let s = d .before .before .before .args in
-    let o = open-by (baseRows rows) _ (s .o) e (d .if1 .left) in
-    let k = lists-known a b rows (o .are) (o .is) in
-    let lent = lent-of a b rows (o .are) (o .is) _ _ tells in
-    let few = slots-few (rowsOf rows) in
-    let n = slots-len _ _ (o .slots) in
-    let v = view (o .are .rows) (o .are .first) (o .are .second) in
-    let w = m .smaller-unit .ensures v lent (o .are .first) (o .are .second) (o .first) (o .second) (k .first-short) (k .second-short) (omega arith) (k .first-shaped) (k .second-shaped)
-    ∙ ap (λ bs. smallerOf (smallerUnit bs (sizeBy (scaleAt (o .are .rows))) (o .are .first) (o .are .second))) (bases-agree rows (o .are .rows) (o .are .first ++ o .are .second) _ n) in
-    let q = smallerUnit (basesIn rows (o .are .rows)) (sizeBy (scaleAt (o .are .rows))) (o .are .first) (o .are .second) in
-    let same = sym (call-goes rows a b (work rows) (o .are) (o .is)) in
-    second-chosen q (o .are .first) (o .are .second) (c .factors-of2 .result) (sym w ∙ c .before .enum-told2 .given .1) (c .factors-of2 .ensures v (o .are .second) (o .second) (k .second-short)) ∙ ap madeOf same
+    let r = lists m rows a b o in
+    second-chosen (first-smaller m rows a b o) (r .fs) (r .gs) (c .factors-of2 .result) (sym (told m rows a b o) ∙ c .before .enum-told2 .given .1) (c .factors-of2 .ensures (seen r) (r .gs) (r .second))
+    ∙ ap madeOf (sym (goes r (work rows)))
 
 returns-4 : tie.Need-returns-4
 unfolding spec.smallerUnit
-returns-4 c rows a b e tells =
+returns-4 c rows a b o =
     let m = c .before .before .before .before in
-    let d = m .before .before .before .before in
-    let s = d .before .before .before .args in
-    let o = open-by (baseRows rows) _ (s .o) e (d .if1 .left) in
-    let k = lists-known a b rows (o .are) (o .is) in
-    let lent = lent-of a b rows (o .are) (o .is) _ _ tells in
-    let few = slots-few (rowsOf rows) in
-    let n = slots-len _ _ (o .slots) in
-    let v = view (o .are .rows) (o .are .first) (o .are .second) in
-    let w = m .smaller-unit .ensures v lent (o .are .first) (o .are .second) (o .first) (o .second) (k .first-short) (k .second-short) (omega arith) (k .first-shaped) (k .second-shaped)
-    ∙ ap (λ bs. smallerOf (smallerUnit bs (sizeBy (scaleAt (o .are .rows))) (o .are .first) (o .are .second))) (bases-agree rows (o .are .rows) (o .are .first ++ o .are .second) _ n) in
-    let q = smallerUnit (basesIn rows (o .are .rows)) (sizeBy (scaleAt (o .are .rows))) (o .are .first) (o .are .second) in
-    let same = sym (call-goes rows a b (work rows) (o .are) (o .is)) in
-    c .refused2 .ensures ∙ neither-chosen q (o .are .first) (o .are .second) _ (sym w ∙ c .before .before .w .given .1) ∙ ap madeOf same
+    let r = lists m rows a b o in
+    c .refused2 .ensures
+    ∙ neither-chosen (first-smaller m rows a b o) (r .fs) (r .gs) _ (sym (told m rows a b o) ∙ c .before .before .w .given .1)
+    ∙ ap madeOf (sym (goes r (work rows)))
 
 pub smaller-unit-over-spec : {M : Type 1} → statement M
 smaller-unit-over-spec =

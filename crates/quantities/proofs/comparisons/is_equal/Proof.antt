@@ -7,8 +7,8 @@ use borrow.Author.Tests.{ne-eqb}
 use Rattle.canonical.specs.declared.equality.Verdict.the-variants as verdict
 use Rattle.conversion.specs.declared.convert.Converted.{Converted}
 use Rattle.conversion.specs.declared.convert.Converted.the-variants as converted
-use Rattle.conversion.specs.Conversion.{refusedBy}
-use Rattle.quantities.specs.Comparisons.{judgement}
+use Rattle.conversion.specs.Held.{refusedBy}
+use Rattle.quantities.specs.Held.{judgement}
 use Rattle.quantities.proofs.comparisons.is_equal.Statement.{statement}
 use Rattle.quantities.proofs.comparisons.is_equal.Tie as tie
 

@@ -26,7 +26,7 @@ returns : tie.Need-returns
 returns c =
     let o = c .before .before .before .before .before in
     let s = o .before .before .before .before .args in
-    c .convert-to-over .ensures (s .rows) (s .target) (o .open-lists .ensures .0) (o .open-lists .ensures .1)
+    c .convert-to-over .ensures (s .rows) (s .target) (o .open-lists .ensures)
 
 pub convert-to-spec : {M : Type 1} → statement M
 convert-to-spec = tie.close (tie.spec slice-aggregate-open-lists slice-aggregate-open-lists-2 open-lists-requires slice-aggregate-convert-to-over slice-aggregate-convert-to-over-2 convert-to-over-requires returns)

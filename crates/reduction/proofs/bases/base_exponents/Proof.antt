@@ -1,8 +1,6 @@
 -- `base_exponents` meets its contract.
 use borrow.Author.Needs.{needs}
 use mathlib.Core.List.{[], _++_}
-use Rattle.units.specs.Lists.{factorFault}
-use Rattle.reduction.proofs.Adding.{some-left, some-right}
 use Rattle.reduction.proofs.bases.base_exponents.Statement.{statement}
 use Rattle.reduction.proofs.bases.base_exponents.Tie as tie
 
@@ -19,10 +17,10 @@ finished-requires : tie.Need-finished-requires
 finished-requires c κs = search needs
 
 returns : tie.Need-returns
-returns c v lent fs gs e f h i k q =
+returns c v fs gs lends r s =
     let n = c .before .before .before .before .before .args .n in
-    let first = c .before .before .with-list .ensures v lent n [] fs e h (some-left factorFault fs gs q) k (c .before .before .before .none-yet .ensures v k) in
-    c .finished .ensures v (fs ++ gs) k (c .before .with-list2 .ensures v lent n fs gs f i (some-right factorFault fs gs q) k first)
+    let first = c .before .before .with-list .ensures v n [] fs lends r (c .before .before .before .none-yet .ensures v (lends .few)) in
+    c .finished .ensures v (fs ++ gs) (lends .few) (c .before .with-list2 .ensures v n fs gs lends s first)
 
 pub base-exponents-spec : {M : Type 1} → statement M
 base-exponents-spec =

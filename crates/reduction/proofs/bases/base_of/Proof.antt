@@ -14,9 +14,9 @@ finished-requires : tie.Need-finished-requires
 finished-requires c κs = search needs
 
 returns : tie.Need-returns
-returns c v lent fs e h k q =
+returns c v fs lends r =
     let n = c .before .before .before .before .args .n in
-    c .finished .ensures v fs k (c .before .with-list .ensures v lent n [] fs e h q k (c .before .before .none-yet .ensures v k))
+    c .finished .ensures v fs (lends .few) (c .before .with-list .ensures v n [] fs lends r (c .before .before .none-yet .ensures v (lends .few)))
 
 pub base-of-spec : {M : Type 1} → statement M
 base-of-spec = tie.close (tie.spec none-yet-requires with-list-requires finished-requires returns)

@@ -14,9 +14,9 @@ finished-requires : tie.Need-finished-requires
 finished-requires c κs = search needs
 
 returns : tie.Need-returns
-returns c v lent f e h k =
+returns c v f lends e h =
     let n = c .before .before .before .before .args .n in
-    c .finished .ensures v (f ∷ []) k (c .before .with-factor .ensures v lent n [] f e h k (c .before .before .none-yet .ensures v k))
+    c .finished .ensures v (f ∷ []) (lends .few) (c .before .with-factor .ensures v n [] f lends e h (c .before .before .none-yet .ensures v (lends .few)))
 
 pub base-of-item-spec : {M : Type 1} → statement M
 base-of-item-spec = tie.close (tie.spec none-yet-requires with-factor-requires finished-requires returns)

@@ -2,7 +2,7 @@
 use borrow.Author.Needs.{needs}
 use mathlib.Core.Path.{_≡_, _∙_}
 use lib.ListN.{length}
-use Rattle.tables.proofs.Terms.{unmapped}
+use Rattle.exponents.proofs.Words.{unmapped}
 use Rattle.reduction.proofs.Adding.{summed-refused, summed-given}
 use Rattle.reduction.proofs.bases.finished.Statement.{statement}
 use Rattle.reduction.proofs.bases.finished.Tie as tie

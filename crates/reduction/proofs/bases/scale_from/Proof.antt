@@ -4,11 +4,11 @@ use mathlib.Core.Path.{_≡_, refl, sym, _∙_}
 use mathlib.Core.List.{List}
 use Prim.Native.Nat.{_-_, _≤_}
 use native.Mathlib.Omega.{arith}
-use lib.ListN.{length, drop}
+use lib.ListN.{drop}
 use Rattle.units.specs.declared.Factor.{Factor}
 use Rattle.units.specs.Lists.{noFactor}
-use Rattle.tables.specs.Scale.{binary64, scaleFrom, sizeBy}
-use Rattle.tables.specs.Items.{View, packItems}
+use Rattle.tables.specs.Scale.{doubles, scaleFrom, sizeBy}
+use Rattle.tables.specs.Held.{View, Resolved}
 use Rattle.reduction.proofs.Resolved.{nilItem, items-len, item-at, item-on, item-off, items-end}
 use Rattle.reduction.proofs.bases.scale_from.Statement.{statement}
 use Rattle.reduction.proofs.bases.scale_from.Tie as tie
@@ -16,7 +16,7 @@ use Rattle.reduction.proofs.bases.scale_from.Tie as tie
 abbrev Inv-loop : tie.InvT-loop
 Inv-loop start l m acc₀ i₀ acc i =
     (i ≤ m)
-    × ((v : View) (fs : List Factor) → l ≡ packItems v fs → length fs ≤ 16 → scaleFrom binary64 (sizeBy (v .scale)) acc (drop i fs) ≡ scaleFrom binary64 (sizeBy (v .scale)) start fs)
+    × ((v : View) (fs : List Factor) → Resolved v l fs → scaleFrom doubles (sizeBy (v .scale)) acc (drop i fs) ≡ scaleFrom doubles (sizeBy (v .scale)) start fs)
 
 abbrev μ-loop : tie.MeasureT-loop
 μ-loop start l m acc₀ i₀ acc i = m - i
@@ -25,7 +25,7 @@ capped-requires : tie.Need-capped-requires Inv-loop μ-loop
 capped-requires c κs = search needs
 
 loop-holds : tie.Need-loop-holds Inv-loop μ-loop
-loop-holds c = (omega arith, λ v fs e h. refl)
+loop-holds c = (omega arith, λ v fs r. refl)
 
 mul-it : tie.Need-mul-it Inv-loop μ-loop
 mul-it c = search needs
@@ -46,16 +46,16 @@ enum-known-x-2 : tie.Need-enum-known-x-2 Inv-loop μ-loop
 enum-known-x-2 c = search needs
 
 returns : tie.Need-returns Inv-loop μ-loop
-returns c v fs e h =
-    let r = c .before .before .before in
-    let q = r .before .before in
+returns c v fs r =
+    let x = c .before .before .before in
+    let q = x .before .before in
     let k = q .before .before .before .before .before .loop in
     let m = q .before .before .before .before .before .before in
     let a = m .before .args in
-    let n = items-len v (a .t2) fs e in
-    let same = m .capped .ensures .1 (omega arith) in
-    item-off v fs (k .i) noFactor (omega arith) _ (item-at v (a .t2) fs e (k .i) nilItem noFactor (omega arith)) (q .factor-of .result) (q .factor-of .ensures) (a .start) (k .acc) (k .inv .1 v fs e h) _
-    (sym (r .raised .ensures) ∙ c .before .x2 .given .1)
+    let n = items-len v (a .t2) fs (r .is) in
+    let same = m .capped .ensures .1 (omega (arith, r .short)) in
+    item-off v fs (k .i) noFactor (omega arith) _ (item-at v (a .t2) fs (r .is) (k .i) nilItem noFactor (omega arith)) (q .factor-of .result) (q .factor-of .ensures) (a .start) (k .acc) (k .inv .1 v fs r) _
+    (sym (x .raised .ensures) ∙ c .before .x2 .given .1)
 
 add-i : tie.Need-add-i Inv-loop μ-loop
 add-i c = search needs
@@ -65,27 +65,27 @@ loop-less c = omega arith
 
 loop-again : tie.Need-loop-again Inv-loop μ-loop
 loop-again c =
-    let r = c .before .before .before in
-    let q = r .before .before in
+    let x = c .before .before .before in
+    let q = x .before .before in
     let k = q .before .before .before .before .before .loop in
     let m = q .before .before .before .before .before .before in
     let a = m .before .args in (
       omega arith,
-      λ v fs e h.
-          let n = items-len v (a .t2) fs e in
-          let same = m .capped .ensures .1 (omega arith) in
-          item-on v fs (k .i) noFactor (omega arith) _ (item-at v (a .t2) fs e (k .i) nilItem noFactor (omega arith)) (q .factor-of .result) (q .factor-of .ensures) (a .start) (k .acc) (k .inv .1 v fs e h) _
-          (sym (r .raised .ensures) ∙ c .before .x .given .1),
+      λ v fs r.
+          let n = items-len v (a .t2) fs (r .is) in
+          let same = m .capped .ensures .1 (omega (arith, r .short)) in
+          item-on v fs (k .i) noFactor (omega arith) _ (item-at v (a .t2) fs (r .is) (k .i) nilItem noFactor (omega arith)) (q .factor-of .result) (q .factor-of .ensures) (a .start) (k .acc) (k .inv .1 v fs r) _
+          (sym (x .raised .ensures) ∙ c .before .x .given .1),
     )
 
 returns-2 : tie.Need-returns-2 Inv-loop μ-loop
-returns-2 c v fs e h =
+returns-2 c v fs r =
     let k = c .before .loop in
     let m = c .before .before in
     let a = m .before .args in
-    let n = items-len v (a .t2) fs e in
-    let same = m .capped .ensures .1 (omega arith) in
-    items-end v fs (k .i) (a .start) (k .acc) (omega arith) (k .inv .1 v fs e h)
+    let n = items-len v (a .t2) fs (r .is) in
+    let same = m .capped .ensures .1 (omega (arith, r .short)) in
+    items-end v fs (k .i) (a .start) (k .acc) (omega arith) (k .inv .1 v fs r)
 
 pub scale-from-spec : {M : Type 1} → statement M
 scale-from-spec =

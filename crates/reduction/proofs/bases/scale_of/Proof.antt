@@ -18,14 +18,14 @@ enum-known-x-2 : tie.Need-enum-known-x-2
 enum-known-x-2 c = search needs
 
 returns : tie.Need-returns
-returns c v fs gs e q h k =
-    let r = c .before .before .before .before in
-    c .scale-from2 .ensures v gs q k ∙ joined-on v fs gs _ _ (sym (r .scale-from .ensures v fs e h) ∙ c .before .before .x .given .1)
+returns c v fs gs r s =
+    let x = c .before .before .before .before in
+    c .scale-from2 .ensures v gs s ∙ joined-on v fs gs _ _ (sym (x .scale-from .ensures v fs r) ∙ c .before .before .x .given .1)
 
 returns-2 : tie.Need-returns-2
-returns-2 c v fs gs e q h k =
-    let r = c .before .before .before in
-    joined-off v fs gs _ _ (sym (r .scale-from .ensures v fs e h) ∙ c .before .x2 .given .1)
+returns-2 c v fs gs r s =
+    let x = c .before .before .before in
+    joined-off v fs gs _ _ (sym (x .scale-from .ensures v fs r) ∙ c .before .x2 .given .1)
 
 pub scale-of-spec : {M : Type 1} → statement M
 scale-of-spec =

@@ -8,10 +8,10 @@ use native.Mathlib.Omega.{arith}
 use lib.ListN.{length, length-set}
 use Rattle.exponents.specs.Fractions.{faulty}
 use Rattle.units.specs.declared.Factor.{Factor}
-use Rattle.tables.specs.Items.{View, Lent, itemOf}
+use Rattle.tables.specs.Held.{View, Lends, itemOf}
 use Rattle.tables.specs.declared.Item.{Item}
-use Rattle.tables.proofs.Terms.{unmapped}
-use Rattle.reduction.specs.Partial.{Summed}
+use Rattle.exponents.proofs.Words.{unmapped}
+use Rattle.reduction.specs.Held.{Summed}
 use Rattle.reduction.proofs.Adding.{Adding, adding-none, adding-end, factor-on, factor-off}
 use Rattle.reduction.proofs.bases.with_factor.Statement.{statement}
 use Rattle.reduction.proofs.bases.with_factor.Tie as tie
@@ -20,7 +20,7 @@ abbrev Inv-loop : tie.InvT-loop
 Inv-loop p nums dens f e m at₀ s₀ at s =
     (s ≤ m)
     × (length at ≡ 16)
-    × ((v : View) → Lent v nums dens → (n : ℕ) (fs : List Factor) → faulty (f .exponent) ≡ false → n ≤ 16 → Summed v n fs p → Adding v n fs f (p .stop) at s)
+    × ((v : View) (n : ℕ) (fs : List Factor) → Lends v n nums dens → faulty (f .exponent) ≡ false → Summed v n fs p → Adding v n fs f (p .stop) at s)
 
 abbrev μ-loop : tie.MeasureT-loop
 μ-loop p nums dens f e m at₀ s₀ at s = m - s
@@ -46,7 +46,7 @@ capped-requires c κs = search needs
 loop-holds : tie.Need-loop-holds Inv-loop μ-loop
 loop-holds c =
     let s : tie.Start Inv-loop μ-loop = c .before .before .before .before .before in
-    (omega arith, sums-full s, λ v lent n fs rule short so. adding-none v n fs (own s) (s .args .p) so)
+    (omega arith, sums-full s, λ v n fs lends rule so. adding-none v n fs (own s) (s .args .p) so)
 
 mul-acc : tie.Need-mul-acc Inv-loop μ-loop
 mul-acc c = search needs
@@ -73,15 +73,15 @@ enum-known-x-2 : tie.Need-enum-known-x-2 Inv-loop μ-loop
 enum-known-x-2 c = search needs
 
 returns : tie.Need-returns Inv-loop μ-loop
-returns c v lent n fs f is rule short so =
+returns c v n fs f lends is rule so =
     let t = c .before .before .before in
     let k = t .before .before .before .before .loop in
     let m = t .before .before .before .before .before .before in
     let s : tie.Start Inv-loop μ-loop = m .before .before .before .before in
-    let same = m .capped .ensures .1 (omega (arith, so .within)) in
+    let same = m .capped .ensures .1 (omega (arith, so .within, lends .few)) in
     let ruled = same-rule s v f is rule in
     subst (λ (f : Factor). Summed v n (fs ++ (f ∷ [])) (record { at = k .at; stop = k .s; refusal = c .before .x2 .given .0 .0 })) (same-factor s v f is)
-    (factor-off v n fs (own s) ruled (s .args .p) short so (k .at) (k .s) (k .inv .2 v lent n fs ruled short so) (omega arith) (k .inv .1) (s .args .nums .now) (s .args .dens .now) lent (t .before .exponent-of .result) (t .before .exponent-of .ensures) _ (t .with-term .result) (t .with-term .ensures) _ (c .before .x2 .given .1))
+    (factor-off v n fs (own s) (s .args .nums .now) (s .args .dens .now) lends ruled (s .args .p) so (k .at) (k .s) (k .inv .2 v n fs lends ruled so) (omega arith) (k .inv .1) (t .before .exponent-of .result) (t .before .exponent-of .ensures) _ (t .with-term .result) (t .with-term .ensures) _ (c .before .x2 .given .1))
 
 add-s : tie.Need-add-s Inv-loop μ-loop
 add-s c = search needs
@@ -97,20 +97,20 @@ loop-again c =
     let s : tie.Start Inv-loop μ-loop = m .before .before .before .before in (
       omega arith,
       length-set (k .at) (k .s) _ ∙ k .inv .1,
-      λ v lent n fs rule short so.
-          let same = m .capped .ensures .1 (omega (arith, so .within)) in
-          factor-on v n fs (own s) rule (s .args .p) short so (k .at) (k .s) (k .inv .2 v lent n fs rule short so) (omega arith) (k .inv .1) (s .args .nums .now) (s .args .dens .now) lent (t .before .exponent-of .result) (t .before .exponent-of .ensures) _ (t .with-term .result) (t .with-term .ensures) _ (c .before .x .given .1),
+      λ v n fs lends rule so.
+          let same = m .capped .ensures .1 (omega (arith, so .within, lends .few)) in
+          factor-on v n fs (own s) (s .args .nums .now) (s .args .dens .now) lends rule (s .args .p) so (k .at) (k .s) (k .inv .2 v n fs lends rule so) (omega arith) (k .inv .1) (t .before .exponent-of .result) (t .before .exponent-of .ensures) _ (t .with-term .result) (t .with-term .ensures) _ (c .before .x .given .1),
     )
 
 returns-2 : tie.Need-returns-2 Inv-loop μ-loop
-returns-2 c v lent n fs f is rule short so =
+returns-2 c v n fs f lends is rule so =
     let k = c .before .loop in
     let m = c .before .before .before in
     let s : tie.Start Inv-loop μ-loop = m .before .before .before .before in
-    let same = m .capped .ensures .1 (omega (arith, so .within)) in
+    let same = m .capped .ensures .1 (omega (arith, so .within, lends .few)) in
     subst (λ (stop : ℕ). Summed v n (fs ++ (f ∷ [])) (record { at = k .at; stop = stop; refusal = s .args .p .refusal })) (sym same)
     (subst (λ (f : Factor). Summed v n (fs ++ (f ∷ [])) (record { at = k .at; stop = s .args .p .stop; refusal = s .args .p .refusal })) (same-factor s v f is)
-    (adding-end v n fs (own s) (s .args .p) (k .at) (k .s) so (k .inv .2 v lent n fs (same-rule s v f is rule) short so) (omega arith)))
+    (adding-end v n fs (own s) (s .args .p) (k .at) (k .s) so (k .inv .2 v n fs lends (same-rule s v f is rule) so) (omega arith)))
 
 pub with-factor-spec : {M : Type 1} → statement M
 with-factor-spec =

@@ -2,7 +2,8 @@
 use borrow.Author.Needs.{needs}
 use mathlib.Core.Path.{sym, ap, ap₂, _∙_}
 use native.Mathlib.Omega.{arith}
-use Rattle.exponents.specs.Fractions.{nought, same, div?, fractionOf}
+use Rattle.exponents.specs.Fractions.{nought, same, div?}
+use Rattle.exponents.specs.Held.{fractionOf}
 use Rattle.exponents.proofs.Numbers.{exact-given, refused-refuses}
 use Rattle.reduction.proofs.Fitting.{at-first, all-zero, not-all-zero, quotient-sound, multiple-one, multiple-scalar, multiple-zero, multiple-range, multiple-fits}
 use Rattle.reduction.proofs.multiples.multiple_of.Statement.{statement}

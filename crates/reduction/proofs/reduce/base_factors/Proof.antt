@@ -7,8 +7,8 @@ use native.Mathlib.Omega.{arith}
 use lib.ListN.{length, take}
 use borrow.Author.Tests.{not-true, not-false}
 use Rattle.units.specs.Lists.{pack}
-use Rattle.tables.specs.Rows.{noSlot}
-use Rattle.tables.proofs.Terms.{unmapped}
+use Rattle.tables.specs.Held.{noSlot}
+use Rattle.exponents.proofs.Words.{unmapped}
 use Rattle.reduction.specs.Reduction.{reduced}
 use Rattle.reduction.proofs.Reducing.{none-reduced, slot-skip, pushed, reduced-room, reduced-end}
 use Rattle.reduction.proofs.reduce.base_factors.Statement.{statement}

@@ -5,11 +5,10 @@ use native.Mathlib.Omega.{arith}
 use lib.ListN.{length}
 use Rattle.units.specs.Lists.{pack}
 use Rattle.tables.specs.Lists.{base}
-use Rattle.tables.specs.Scale.{sizeBy}
-use Rattle.tables.specs.Items.{viewBases}
+use Rattle.tables.specs.Held.{rulesBy}
 use Rattle.tables.proofs.Placing.{len-slots}
 use Rattle.reduction.proofs.Handed.{exps-given, exps-refused, base-long}
-use Rattle.reduction.proofs.Reducing.{slots-exps, reduced-packed, reduction-range, reduction-fraction, reduction-given}
+use Rattle.reduction.proofs.Reducing.{slots-exps, slots-lend, reduced-packed, reduction-range, reduction-fraction, reduction-given}
 use Rattle.reduction.proofs.reduce.reduce_list.Statement.{statement}
 use Rattle.reduction.proofs.reduce.reduce_list.Tie as tie
 
@@ -20,13 +19,12 @@ not-reduced-requires : tie.Need-not-reduced-requires
 not-reduced-requires c κs = search needs
 
 returns : tie.Need-returns
-returns c v lent fs ss e f h k q =
+returns c v fs ss lends r f =
     let x = c .before .before .before in
     let a = x .before .before .args in
-    let n = len-slots (a .slots) ss f in
-    let bs = viewBases v (length ss) in
+    let R = rulesBy v (length ss) in
     c .not-reduced .ensures
-    ∙ reduction-range bs (sizeBy (v .scale)) ss fs _ (exps-refused (base bs fs) (x .base-of .result) (slots-exps v (a .slots) ss f fs _ (x .base-of .ensures v lent fs e h (omega arith) q)) (c .before .if1 .taken))
+    ∙ reduction-range R ss fs _ (exps-refused (base (R .bases) fs) (x .base-of .result) (slots-exps v (a .slots) ss f fs _ (x .base-of .ensures v fs (slots-lend v (a .slots) ss f lends) r)) (c .before .if1 .taken))
 
 scale-from-requires : tie.Need-scale-from-requires
 scale-from-requires c κs = search needs
@@ -44,26 +42,25 @@ not-reduced-requires-2 : tie.Need-not-reduced-requires-2
 not-reduced-requires-2 c κs = search needs
 
 returns-2 : tie.Need-returns-2
-returns-2 c v lent fs ss e f h k q =
+returns-2 c v fs ss lends r f =
     let y = c .before .before .before .before .before in
     let x = y .before .before .before in
     let a = x .before .before .args in
     let n = len-slots (a .slots) ss f in
-    let bs = viewBases v (length ss) in
-    let z = exps-given (base bs fs) (x .base-of .result) (slots-exps v (a .slots) ss f fs _ (x .base-of .ensures v lent fs e h (omega arith) q)) (y .before .if1 .left) in
-    reduction-given bs (sizeBy (v .scale)) ss fs (z .exps) (z .is) (c .base-factors .result) _
-    (c .base-factors .ensures (omega arith) ∙ ap pack (reduced-packed (a .slots) ss (x .base-of .result .at) (z .exps) f (z .at) (base-long v (length ss) fs (z .exps) (z .is))))
-    (sym (y .scale-from .ensures v fs e h) ∙ c .before .before .before .y .given .1)
+    let R = rulesBy v (length ss) in
+    let z = exps-given (base (R .bases) fs) (x .base-of .result) (slots-exps v (a .slots) ss f fs _ (x .base-of .ensures v fs (slots-lend v (a .slots) ss f lends) r)) (y .before .if1 .left) in
+    reduction-given R ss fs (z .exps) (z .is) (c .base-factors .result) _
+    (c .base-factors .ensures (omega (arith, lends .few)) ∙ ap pack (reduced-packed (a .slots) ss (x .base-of .result .at) (z .exps) f (z .at) (base-long v (length ss) fs (z .exps) (z .is))))
+    (sym (y .scale-from .ensures v fs r) ∙ c .before .before .before .y .given .1)
 
 returns-3 : tie.Need-returns-3
-returns-3 c v lent fs ss e f h k q =
+returns-3 c v fs ss lends r f =
     let y = c .before .before .before .before in
     let x = y .before .before .before in
     let a = x .before .before .args in
-    let n = len-slots (a .slots) ss f in
-    let bs = viewBases v (length ss) in
-    let z = exps-given (base bs fs) (x .base-of .result) (slots-exps v (a .slots) ss f fs _ (x .base-of .ensures v lent fs e h (omega arith) q)) (y .before .if1 .left) in
-    c .not-reduced2 .ensures ∙ reduction-fraction bs (sizeBy (v .scale)) ss fs (z .exps) (z .is) _ (sym (y .scale-from .ensures v fs e h) ∙ c .before .before .y2 .given .1)
+    let R = rulesBy v (length ss) in
+    let z = exps-given (base (R .bases) fs) (x .base-of .result) (slots-exps v (a .slots) ss f fs _ (x .base-of .ensures v fs (slots-lend v (a .slots) ss f lends) r)) (y .before .if1 .left) in
+    c .not-reduced2 .ensures ∙ reduction-fraction R ss fs (z .exps) (z .is) _ (sym (y .scale-from .ensures v fs r) ∙ c .before .before .y2 .given .1)
 
 pub reduce-list-spec : {M : Type 1} → statement M
 reduce-list-spec =

@@ -1,11 +1,12 @@
 -- `toward` meets its contract.
 use borrow.Author.Needs.{needs}
 use mathlib.Core.Path.{refl, sym, ap, _∙_}
-use Rattle.exponents.specs.Outcome.{UNITS, map}
+use Rattle.exponents.specs.Outcome.{UNITS, apply}
 use Rattle.canonical.proofs.Seen.{len-items}
 use Rattle.values.specs.Quantities.{answeredOf}
 use Rattle.quantities.proofs.Converting.{value-given, value-refused}
-use Rattle.simplification.specs.Rules.{rulesBy, convertBy}
+use Rattle.tables.specs.Held.{rulesBy}
+use Rattle.conversion.specs.Conversion.{convert}
 use Rattle.simplification.specs.Steps.{quantityOf, byGroups}
 use Rattle.simplification.proofs.Stepping.{goes-on, attempt-given, attempt-refused, toward-nothing, toward-one}
 use Rattle.simplification.proofs.steps.toward.Statement.{statement}
@@ -15,11 +16,11 @@ by-groups-requires : tie.Need-by-groups-requires
 by-groups-requires c κs = search needs
 
 returns : tie.Need-returns
-returns c v lent fs ms cs el et ec lf lm lc ln sf sm sc =
+returns c v fs ms cs lends l t r =
     let s = c .before .before .before .before .args in
     let next = byGroups (rulesBy v (s .n)) (s .x) cs in
-    c .by-groups .ensures UNITS v lent cs refl ec lc ln sc
-    ∙ ap (λ o. answeredOf (map quantityOf o)) (goes-on UNITS next refl ∙ sym (toward-nothing (rulesBy v (s .n)) (s .x) fs ms next (sym (len-items v ms (s .t) et) ∙ c .before .if1 .taken)))
+    c .by-groups .ensures UNITS v cs refl lends r
+    ∙ ap (λ o. answeredOf (apply quantityOf o)) (goes-on UNITS next refl ∙ sym (toward-nothing (rulesBy v (s .n)) (s .x) fs ms next (sym (len-items v ms (s .t) (t .is)) ∙ c .before .if1 .taken)))
 
 convert-requires : tie.Need-convert-requires
 convert-requires c κs = search needs
@@ -37,14 +38,14 @@ by-groups-requires-2 : tie.Need-by-groups-requires-2
 by-groups-requires-2 c κs = search needs
 
 returns-2 : tie.Need-returns-2
-returns-2 c v lent fs ms cs el et ec lf lm lc ln sf sm sc =
+returns-2 c v fs ms cs lends l t r =
     let k = c .before .before .before .before in
     let s = k .before .before .before .before .args in
     let next = byGroups (rulesBy v (s .n)) (s .x) cs in
-    let e = k .convert .ensures v (lent .0) fs ms el et lf lm ln sf sm in
-    let r = value-refused (convertBy (rulesBy v (s .n)) fs ms (s .x)) (k .convert .result) e _ _ (c .before .before .enum-told .given .1) (c .before .refusal-of .ensures) in
-    c .by-groups2 .ensures (r .why) v lent cs (sym (r .numbered)) ec lc ln sc
-    ∙ ap (λ o. answeredOf (map quantityOf o)) (sym (toward-one (rulesBy v (s .n)) (s .x) fs ms next (λ z. k .before .if1 .left (len-items v ms (s .t) et ∙ z)) ∙ attempt-refused ms next (r .why) (r .is)))
+    let e = k .convert .ensures v fs ms lends l t in
+    let w = value-refused (convert (rulesBy v (s .n)) fs ms (s .x)) (k .convert .result) e _ _ (c .before .before .enum-told .given .1) (c .before .refusal-of .ensures) in
+    c .by-groups2 .ensures (w .why) v cs (sym (w .numbered)) lends r
+    ∙ ap (λ o. answeredOf (apply quantityOf o)) (sym (toward-one (rulesBy v (s .n)) (s .x) fs ms next (λ z. k .before .if1 .left (len-items v ms (s .t) (t .is) ∙ z)) ∙ attempt-refused ms next (w .why) (w .is)))
 
 factors-of-requires : tie.Need-factors-of-requires
 factors-of-requires c κs = search needs
@@ -53,16 +54,16 @@ with-mark-requires : tie.Need-with-mark-requires
 with-mark-requires c κs = search needs
 
 returns-3 : tie.Need-returns-3
-returns-3 c v lent fs ms cs el et ec lf lm lc ln sf sm sc =
+returns-3 c v fs ms cs lends l t r =
     let y = c .before .before .before in
     let k = y .before .before in
     let s = k .before .before .before .before .args in
     let next = byGroups (rulesBy v (s .n)) (s .x) cs in
-    let e = k .convert .ensures v (lent .0) fs ms el et lf lm ln sf sm in
+    let e = k .convert .ensures v fs ms lends l t in
     let z = y .y .given in
-    let g = value-given (convertBy (rulesBy v (s .n)) fs ms (s .x)) (k .convert .result) e (z .0 .0) (z .1) in
-    c .with-mark .ensures ms (c .before .factors-of .ensures v ms et lm)
-    ∙ ap (λ o. answeredOf (map quantityOf o)) (sym (toward-one (rulesBy v (s .n)) (s .x) fs ms next (λ z. k .before .if1 .left (len-items v ms (s .t) et ∙ z)) ∙ attempt-given ms next (z .0 .0) g))
+    let g = value-given (convert (rulesBy v (s .n)) fs ms (s .x)) (k .convert .result) e (z .0 .0) (z .1) in
+    c .with-mark .ensures ms (c .before .factors-of .ensures v ms t)
+    ∙ ap (λ o. answeredOf (apply quantityOf o)) (sym (toward-one (rulesBy v (s .n)) (s .x) fs ms next (λ z. k .before .if1 .left (len-items v ms (s .t) (t .is) ∙ z)) ∙ attempt-given ms next (z .0 .0) g))
 
 pub toward-spec : {M : Type 1} → statement M
 toward-spec =

@@ -1,41 +1,46 @@
 -- `with_group` meets its contract.
 use borrow.Author.Needs.{needs}
-use mathlib.Core.Path.{_≡_, ap}
-use mathlib.Core.Bool.{false}
+use mathlib.Core.Path.{ap}
 use mathlib.Core.List.{List, _++_}
-use Prim.Native.Nat.{_+_, _≤_, _<_}
+use Prim.Native.Nat.{_+_}
 use native.Mathlib.Omega.{arith}
-use lib.Ieee.{mul}
-use lib.Ieee as ieee
-use lib.ListN.{length, drop}
+use lib.Ieee.{binary64, mul}
 use Rattle.floats.specs.Power.{one}
 use Rattle.units.specs.declared.Factor.{Factor}
-use Rattle.units.specs.Lists.{some, factorFault}
-use Rattle.tables.specs.Key.{first}
-use Rattle.tables.specs.Items.{View, packItems, viewBases}
-use Rattle.canonical.proofs.Judged.{unformed}
-use Rattle.canonical.proofs.Keeping.{each-faultless, Kept, kept-with}
+use Rattle.tables.specs.Held.{View, rulesBy, Lends, Resolved}
+use Rattle.canonical.proofs.Judged.{Formed, formed, unformed}
+use Rattle.canonical.proofs.Seen.{len-items}
 use Rattle.quantities.proofs.Converting.{value-given, value-refused}
-use Rattle.targets.specs.Groups.{leading, target}
-use Rattle.simplification.specs.Rules.{rulesBy, Lends, convertBy}
+use Rattle.targets.specs.Groups.{target}
+use Rattle.targets.proofs.Grouping.{group-resolved}
+use Rattle.targets.proofs.Within.{target-resolved}
+use Rattle.conversion.specs.Conversion.{convert}
 use Rattle.simplification.specs.Steps.{grown}
+use Rattle.simplification.specs.Held.{nextGroup, Grows}
 use Rattle.simplification.specs.declared.steps.Progress.{Progress}
-use Rattle.targets.proofs.Within.{target-within}
-use Rattle.simplification.proofs.Stepping.{Lone, lone}
-use Rattle.simplification.proofs.Turns.{Taken, taken, target-stops, conversion-stops, group-done, halted, moved}
+use Rattle.simplification.proofs.Turns.{aim-short, target-stops, conversion-stops, group-done, halted, moved}
 use Rattle.simplification.proofs.steps.with_group.Statement.{statement}
 use Rattle.simplification.proofs.steps.with_group.Tie as tie
 
 -- the group, and its target where there is one
-at-group : (d : tie.After-group-at) (v : View) (cs gs : List Factor) → d .before .before .args .c ≡ packItems v cs → gs ≡ leading (rulesBy v (d .before .before .args .n) .alike) (drop (d .before .before .args .p .next) cs) → length cs ≤ 16 → d .before .before .args .p .next < length cs → some factorFault cs ≡ false → Taken v gs (d .group-at .result)
-at-group d v cs gs ec eg lc lp sc = taken v (d .before .before .args .n) (d .before .before .args .p .next) cs gs (d .group-at .result) (d .group-at .ensures .0 .1) (d .group-at .ensures .1 v cs ec lc lp) eg sc
+module _ (v : View) (us cs : List Factor) where
+  abbrev Turn : tie.Start → Type 0
+  Turn s = Grows v (s .args .p) (s .args .c) us cs
 
-with-target : (d : tie.Else1) (v : View) → Lends v (d .before .before .before .before .before .before .args .nums .now) (d .before .before .before .before .before .before .args .dens .now) → (gs : List Factor) → Taken v gs (d .before .before .before .before .group-at .result) → d .before .before .before .before .before .before .args .n ≤ 16 →
-    Lone v (target (viewBases v (d .before .before .before .before .before .before .args .n)) (v .base) (λ a. first (v .exps a)) gs) (d .before .before .target-of .result)
-with-target d v lent gs g ln =
-    let bs = viewBases v (d .before .before .before .before .before .before .args .n) in
-    lone v (target bs (v .base) (λ a. first (v .exps a)) gs) (d .before .before .target-of .result) (target-within Kept kept-with bs (v .base) (λ a. first (v .exps a)) gs (each-faultless factorFault gs (g .kept)))
-    (d .before .before .target-of .ensures v (lent .0) (lent .1) gs (g .list) (g .short) ln (g .kept)) (d .if1 .left)
+  abbrev group : tie.Start → List Factor
+  group s = nextGroup v (s .args .p) cs
+
+  at-group : (d : tie.After-group-at) → Turn (d .before .before) → Resolved v (d .group-at .result) (group (d .before .before))
+  at-group d g = group-resolved (g .whole) (d .before .before .args .p .next) (d .group-at .result) (d .group-at .ensures .1 v cs (g .whole) (g .more))
+
+  abbrev begin : tie.Else1 → tie.Start
+  begin d = d .before .before .before .before .before .before
+
+  with-target : (d : tie.Else1) → Lends v (begin d .args .n) (begin d .args .nums .now) (begin d .args .dens .now) → Turn (begin d) → Formed v (target (rulesBy v (begin d .args .n)) (group (begin d))) (d .before .before .target-of .result)
+  with-target d lends g =
+      let r = at-group (d .before .before .before .before) g in
+      formed v (target (rulesBy v (begin d .args .n)) (group (begin d))) (d .before .before .target-of .result) (target-resolved r (rulesBy v (begin d .args .n)))
+      (d .before .before .target-of .ensures v (group (begin d)) lends r) (d .if1 .left)
 
 group-at-requires : tie.Need-group-at-requires
 group-at-requires c κs = search needs
@@ -55,12 +60,13 @@ returns c =
     let ga = ta .before .before in
     let to = ap (λ (y : Progress). y .next) (c .stopped .ensures) in (
       (omega (arith, ga .group-at .ensures .0 .0), omega (arith, ga .before .before .pre, ga .group-at .ensures .0 .1)),
-      λ v lent us cs gs eu ec eg lu lc lp ln sc.
+      λ v us cs lends g.
           let s = ga .before .before .args in
-          let g = at-group ga v cs gs ec eg lc lp sc in
-          halted v (grown (rulesBy v (s .n)) (s .p .factor) us gs) _ _ _ _ (c .stopped .ensures) (ap (λ k. s .p .next + k) (g .long))
+          let gs = nextGroup v (s .p) cs in
+          let r = at-group v us cs ga g in
+          halted v (grown (rulesBy v (s .n)) (s .p .factor) us gs) _ _ _ _ (c .stopped .ensures) (ap (λ k. s .p .next + k) (len-items v gs _ (r .is)))
           (target-stops (rulesBy v (s .n)) (s .p .factor) us gs _
-          (unformed v (target (viewBases v (s .n)) (v .base) (λ a. first (v .exps a)) gs) (ta .target-of .result) (ta .target-of .ensures v (lent .0) (lent .1) gs (g .list) (g .short) ln (g .kept)) (c .before .if1 .taken))),
+          (unformed v (target (rulesBy v (s .n)) gs) (ta .target-of .result) (ta .target-of .ensures v gs lends r) (c .before .if1 .taken))),
     )
 
 convert-requires : tie.Need-convert-requires
@@ -85,13 +91,13 @@ returns-2 c =
     let ga = no .before .before .before .before in
     let to = ap (λ (y : Progress). y .next) (c .stopped2 .ensures) in (
       (omega (arith, ga .group-at .ensures .0 .0), omega (arith, ga .before .before .pre, ga .group-at .ensures .0 .1)),
-      λ v lent us cs gs eu ec eg lu lc lp ln sc.
+      λ v us cs lends g.
           let s = ga .before .before .args in
-          let g = at-group ga v cs gs ec eg lc lp sc in
-          let t = with-target no v lent gs g ln in
-          let e = cv .convert .ensures v (lent .0) gs (t .answer) (g .list) (t .list) (g .short) (omega (arith, t .short)) ln (g .kept) (t .kept) in
-          let k = value-refused (convertBy (rulesBy v (s .n)) gs (t .answer) one) (cv .convert .result) e _ _ (c .before .before .enum-told .given .1) (c .before .refusal-of .ensures) in
-          halted v (grown (rulesBy v (s .n)) (s .p .factor) us gs) _ _ _ _ (c .stopped2 .ensures) (ap (λ k. s .p .next + k) (g .long))
+          let gs = nextGroup v (s .p) cs in
+          let r = at-group v us cs ga g in
+          let t = with-target v us cs no lends g in
+          let k = value-refused (convert (rulesBy v (s .n)) gs (t .answer) one) (cv .convert .result) (cv .convert .ensures v gs (t .answer) lends r (t .list)) _ _ (c .before .before .enum-told .given .1) (c .before .refusal-of .ensures) in
+          halted v (grown (rulesBy v (s .n)) (s .p .factor) us gs) _ _ _ _ (c .stopped2 .ensures) (ap (λ k. s .p .next + k) (len-items v gs _ (r .is)))
           (conversion-stops (rulesBy v (s .n)) (s .p .factor) us gs (t .answer) (t .is) _ k),
     )
 
@@ -105,16 +111,16 @@ returns-3 c =
     let no = cv .before .before in
     let ga = no .before .before .before .before in (
       (omega (arith, ga .group-at .ensures .0 .0), omega (arith, ga .before .before .pre, ga .group-at .ensures .0 .1)),
-      λ v lent us cs gs eu ec eg lu lc lp ln sc.
+      λ v us cs lends g.
           let s = ga .before .before .args in
-          let g = at-group ga v cs gs ec eg lc lp sc in
-          let t = with-target no v lent gs g ln in
-          let e = cv .convert .ensures v (lent .0) gs (t .answer) (g .list) (t .list) (g .short) (omega (arith, t .short)) ln (g .kept) (t .kept) in
+          let gs = nextGroup v (s .p) cs in
+          let r = at-group v us cs ga g in
+          let t = with-target v us cs no lends g in
           let y = kt .before .y .given in
-          let z = value-given (convertBy (rulesBy v (s .n)) gs (t .answer) one) (cv .convert .result) e (y .0 .0) (y .1) in
-          moved v (grown (rulesBy v (s .n)) (s .p .factor) us gs) _ _ (mul ieee.binary64 (s .p .factor) (y .0 .0)) (us ++ t .answer) _
-          (c .before .joined .ensures v us (t .answer) eu (t .list) (omega (arith, ga .before .before .pre, t .short)))
-          (ap (λ k. s .p .next + k) (g .long))
+          let z = value-given (convert (rulesBy v (s .n)) gs (t .answer) one) (cv .convert .result) (cv .convert .ensures v gs (t .answer) lends r (t .list)) (y .0 .0) (y .1) in
+          moved v (grown (rulesBy v (s .n)) (s .p .factor) us gs) _ _ (mul binary64 (s .p .factor) (y .0 .0)) (us ++ t .answer) _
+          (c .before .joined .ensures v us (t .answer) (g .done) (t .list) (omega (arith, ga .before .before .pre, g .fewer, aim-short (rulesBy v (s .n)) (s .p .factor) us gs r (t .answer) (t .is))))
+          (ap (λ k. s .p .next + k) (len-items v gs _ (r .is)))
           (group-done (rulesBy v (s .n)) (s .p .factor) us gs (t .answer) (t .is) (y .0 .0) z),
     )
 

@@ -12,8 +12,9 @@ use Rattle.exponents.specs.Outcome.{TABLE}
 use Rattle.units.specs.declared.Row.{Row}
 use Rattle.tables.specs.declared.Admitted.{Admitted}
 use Rattle.tables.specs.Rows.{Admission, stopped, admitFrom, admit, slots, rowsOf}
-use Rattle.tables.specs.Pages.{Room, Pages, admittedOf}
-use Rattle.tables.proofs.Terms.{unmapped, nilRow}
+use Rattle.tables.specs.Held.{Room, Pages, admittedOf}
+use Rattle.exponents.proofs.Words.{unmapped}
+use Rattle.tables.proofs.Terms.{nilRow}
 use Rattle.tables.proofs.Placing.{len-slots}
 use Rattle.tables.proofs.Slotting.{slots-few, long-rows, row-here}
 use Rattle.tables.proofs.Admitting.{Admitting, Tells, admitting-none, admitting-on, admitting-off, admitting-end, within, over}
@@ -63,7 +64,7 @@ returns c =
     let s : tie.Start Inv-loop μ-loop = c .before .before .before .before .before .before in
     let all = slots (rowsOf (s .args .t1)) in
     let is : admit (s .args .t1) ≡ stopped TABLE [] = over (s .args .t1) (c .before .if1 .taken) in
-    (c .refused .ensures ∙ sym (ap (admittedOf all) is), s .pre .0, subst (λ (a : Admission). Pages a (s .args .nums .now) (s .args .dens .now) (s .args .scales .now) (s .args .ranks .now) (s .args .based .now)) (sym is) tt)
+    record { is = c .refused .ensures ∙ sym (ap (admittedOf all) is); room = s .pre .0; pages = subst (λ (a : Admission). Pages a (s .args .nums .now) (s .args .dens .now) (s .args .scales .now) (s .args .ranks .now) (s .args .based .now)) (sym is) tt }
 
 slots-of-requires : tie.Need-slots-of-requires Inv-loop μ-loop
 slots-of-requires c κs = search needs
@@ -92,19 +93,19 @@ refused-requires-2 : tie.Need-refused-requires-2 Inv-loop μ-loop
 refused-requires-2 c κs = search needs
 
 same-length : tie.Need-same-length Inv-loop μ-loop
-same-length c = let q = row (c .before .before) in q .admit-row .ensures .0 .0 ∙ sym (start (turn q) .pre .0 .0)
+same-length c = let q = row (c .before .before) in q .admit-row .ensures .room .0 ∙ sym (start (turn q) .pre .0 .0)
 
 same-length-2 : tie.Need-same-length-2 Inv-loop μ-loop
-same-length-2 c = let q = row (c .before .before) in q .admit-row .ensures .0 .1 ∙ sym (start (turn q) .pre .0 .1)
+same-length-2 c = let q = row (c .before .before) in q .admit-row .ensures .room .1 ∙ sym (start (turn q) .pre .0 .1)
 
 same-length-3 : tie.Need-same-length-3 Inv-loop μ-loop
-same-length-3 c = let q = row (c .before .before) in q .admit-row .ensures .0 .2 ∙ sym (start (turn q) .pre .0 .2)
+same-length-3 c = let q = row (c .before .before) in q .admit-row .ensures .room .2 ∙ sym (start (turn q) .pre .0 .2)
 
 same-length-4 : tie.Need-same-length-4 Inv-loop μ-loop
-same-length-4 c = let q = row (c .before .before) in q .admit-row .ensures .0 .3 ∙ sym (start (turn q) .pre .0 .3)
+same-length-4 c = let q = row (c .before .before) in q .admit-row .ensures .room .3 ∙ sym (start (turn q) .pre .0 .3)
 
 same-length-5 : tie.Need-same-length-5 Inv-loop μ-loop
-same-length-5 c = let q = row (c .before .before) in q .admit-row .ensures .0 .4 ∙ sym (start (turn q) .pre .0 .4)
+same-length-5 c = let q = row (c .before .before) in q .admit-row .ensures .room .4 ∙ sym (start (turn q) .pre .0 .4)
 
 returns-2 : tie.Need-returns-2 Inv-loop μ-loop
 returns-2 c =
@@ -115,8 +116,8 @@ returns-2 c =
     let t =
     whole k _ _ _ _ _ _
     (admitting-off all (rowsOf (start k .args .t1)) _ _ _ _ _ _ _ a _ (here q) (q .admit-row .result) _ _ _ _ _
-    (q .admit-row .ensures .1 all (a .ks) (k .before .slots-of .ensures) (a .at) (a .bases-are) (a .paged)) (c .before .if2 .taken)) in
-    (c .refused2 .ensures ∙ t .0, q .admit-row .ensures .0, t .1)
+    (q .admit-row .ensures .joins all (a .ks) (k .before .slots-of .ensures) (a .at) (a .bases-are) (a .paged)) (c .before .if2 .taken)) in
+    record { is = c .refused2 .ensures ∙ t .0; room = q .admit-row .ensures .room; pages = t .1 }
 
 counted-requires : tie.Need-counted-requires Inv-loop μ-loop
 counted-requires c κs = turn (row (c .before)) .loop .inv .2 .few
@@ -136,8 +137,8 @@ loop-again c =
     let low : k .loop .i < start k .args .t1 .len = q .before .before .before .before .before .before .before .before .loop-test .taken in
     let more =
     admitting-on all (rowsOf (start k .args .t1)) _ _ _ _ _ _ _ a _ (here q) (q .admit-row .result) _ _ _ _ _
-    (q .admit-row .ensures .1 all (a .ks) (k .before .slots-of .ensures) (a .at) (a .bases-are) (a .paged)) (c .before .if2 .left) (c .counted .result) (c .counted .ensures) in
-    (omega arith, q .admit-row .ensures .0, more)
+    (q .admit-row .ensures .joins all (a .ks) (k .before .slots-of .ensures) (a .at) (a .bases-are) (a .paged)) (c .before .if2 .left) (c .counted .result) (c .counted .ensures) in
+    (omega arith, q .admit-row .ensures .room, more)
 
 same-length-6 : tie.Need-same-length-6 Inv-loop μ-loop
 same-length-6 c = c .before .loop .inv .1 .0 ∙ sym (start (c .before) .pre .0 .0)
@@ -162,7 +163,7 @@ returns-3 c =
     let t =
     whole k _ _ _ _ _ _
     (admitting-end (slots rs) rs _ _ _ _ _ _ _ (k .loop .inv .2) (omega (arith, long-rows (start k .args .t1) (full (start k)) (small k))) (k .before .slots-of .result) (k .before .slots-of .ensures)) in
-    (ap (λ (m : ℕ). record { slots = k .before .slots-of .result; len = m; refusal = 0 }) (sym n) ∙ t .0, k .loop .inv .1, t .1)
+    record { is = ap (λ (m : ℕ). record { slots = k .before .slots-of .result; len = m; refusal = 0 }) (sym n) ∙ t .0; room = k .loop .inv .1; pages = t .1 }
 
 pub admit-spec : {M : Type 1} → statement M
 admit-spec =

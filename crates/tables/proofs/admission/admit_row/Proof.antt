@@ -8,8 +8,8 @@ use lib.ListN.{length, length-set, set}
 use lib.Seq.{sets, length-sets}
 use lib.IntN.{ℤ}
 use Rattle.tables.specs.declared.Slot.{Slot}
-use Rattle.tables.specs.Rows.{Facts, defOf, count, rowFacts, workedOut, workedOf, packSlots}
-use Rattle.tables.specs.Pages.{tops, bottoms, Ranked, Paged, RowIn}
+use Rattle.tables.specs.Rows.{Facts, defOf, count, rowFacts, workedOut}
+use Rattle.tables.specs.Held.{workedOf, packSlots, tops, bottoms, Ranked, Paged, RowIn}
 use Rattle.tables.proofs.Placing.{len-slots}
 use Rattle.tables.proofs.Entering as row
 use Rattle.tables.proofs.admission.admit_row.Statement.{statement}
@@ -66,7 +66,7 @@ same-length c = search needs
 returns : tie.Need-returns
 returns c =
     let f : tie.After-row-fault = c .before in
-    (start f .pre .2, λ ss ks l at n p. row.row-refused ss ks (start f .args .row) _ _ _ _ _ 1 (row.early-fault ss ks (start f .args .row) (sym (early-is ks f at n (p .ranked)) ∙ c .if1 .taken)))
+    record { room = start f .pre .2; joins = λ ss ks l at n p. row.row-refused ss ks (start f .args .row) _ _ _ _ _ 1 (row.early-fault ss ks (start f .args .row) (sym (early-is ks f at n (p .ranked)) ∙ c .if1 .taken)) }
 
 names-ahead-requires : tie.Need-names-ahead-requires
 names-ahead-requires c κs = short c
@@ -78,7 +78,7 @@ returns-2 : tie.Need-returns-2
 returns-2 c =
     let e : tie.After-names-ahead = c .before in
     let f : tie.After-row-fault = e .before .before in
-    (start f .pre .2, λ ss ks l at n p. row.row-refused ss ks (start f .args .row) _ _ _ _ _ 1 (row.name-fault ss ks (start f .args .row) (sym (names-are ks e at) ∙ c .if2 .taken)))
+    record { room = start f .pre .2; joins = λ ss ks l at n p. row.row-refused ss ks (start f .args .row) _ _ _ _ _ 1 (row.name-fault ss ks (start f .args .row) (sym (names-are ks e at) ∙ c .if2 .taken)) }
 
 def-fault-requires : tie.Need-def-fault-requires
 def-fault-requires c κs = short (c .before .before)
@@ -89,11 +89,11 @@ same-length-3 c = search needs
 returns-3 : tie.Need-returns-3
 returns-3 c =
     let e : tie.After-names-ahead = c .before .before .before in
-    let f : tie.After-row-fault = e .before .before in (
-      start f .pre .2,
-      λ ss ks l at n p. row.row-refused ss ks (start f .args .row) _ _ _ _ _ 2
-          (row.shape-fault ss ks (start f .args .row) (sym (early-is ks f at n (p .ranked)) ∙ e .before .if1 .left) (sym (names-are ks e at) ∙ c .before .before .if2 .left) (sym (c .before .def-fault .ensures) ∙ c .if3 .taken)),
-    )
+    let f : tie.After-row-fault = e .before .before in record {
+      room = start f .pre .2;
+      joins = λ ss ks l at n p. row.row-refused ss ks (start f .args .row) _ _ _ _ _ 2
+          (row.shape-fault ss ks (start f .args .row) (sym (early-is ks f at n (p .ranked)) ∙ e .before .if1 .left) (sym (names-are ks e at) ∙ c .before .before .if2 .left) (sym (c .before .def-fault .ensures) ∙ c .if3 .taken));
+    }
 
 work-out-requires : tie.Need-work-out-requires
 work-out-requires c κs =
@@ -127,7 +127,7 @@ returns-4 c =
     let w : tie.After-work-out = c .before .before in
     let e : tie.After-names-ahead = tests w in
     let f : tie.After-row-fault = e .before .before in
-    (start f .pre .2, λ ss ks l at n p. row.work-refused ss ks (start f .args .row) _ _ _ _ _ (w .work-out .result) (sound-is ks ss w at n (p .ranked)) (worked-is ks ss w at l p) (c .if4 .taken))
+    record { room = start f .pre .2; joins = λ ss ks l at n p. row.work-refused ss ks (start f .args .row) _ _ _ _ _ (w .work-out .result) (sound-is ks ss w at n (p .ranked)) (worked-is ks ss w at l p) (c .if4 .taken) }
 
 mul-put-exps : tie.Need-mul-put-exps
 mul-put-exps c = search needs
@@ -189,20 +189,20 @@ returns-5 c =
     let w : tie.After-work-out = worked a in
     let s : tie.Start = start (tests w .before .before) in
     let k = w .work-out .result .known in
-    let q = c .before .before .before .put-exps in (
-      (
+    let q = c .before .before .before .put-exps in record {
+      room = (
         ap length (q .ensures .0) ∙ length-sets (s .args .nums .now) (s .args .i * 16) (tops (k .exps)) ∙ s .pre .2 .0,
         ap length (q .ensures .1) ∙ length-sets (s .args .dens .now) (s .args .i * 16) (bottoms (k .exps)) ∙ s .pre .2 .1,
         length-set (s .args .scales .now) (s .args .i) (k .scale) ∙ s .pre .2 .2,
         length-set (s .args .ranks .now) (s .args .i) (k .rank) ∙ s .pre .2 .3,
         length-set (s .args .based .now) (s .args .i) (k .base) ∙ s .pre .2 .4,
-      ),
-      λ ss ks l at n p.
+      );
+      joins = λ ss ks l at n p.
           subst (λ (x : List ℤ). RowIn ss ks (s .args .row) 0 x (q .last .1 .0) (set (s .args .scales .now) (s .args .i) (k .scale)) (set (s .args .ranks .now) (s .args .i) (k .rank)) (set (s .args .based .now) (s .args .i) (k .base))) (sym (q .ensures .0))
           (subst (λ (x : List ℕ). RowIn ss ks (s .args .row) 0 (sets (s .args .nums .now) (s .args .i * 16) (tops (k .exps))) x (set (s .args .scales .now) (s .args .i) (k .scale)) (set (s .args .ranks .now) (s .args .i) (k .rank)) (set (s .args .based .now) (s .args .i) (k .base))) (sym (q .ensures .1))
           (row.work-stored ss ks (s .args .row) (s .args .nums .now) (s .args .dens .now) (s .args .scales .now) (s .args .ranks .now) (s .args .based .now) (w .work-out .result) (sound-is ks ss w at n (p .ranked)) (worked-is ks ss w at l p)
-          (s .args .i) at (s .pre .0) (subst (λ (m : ℕ). m ≤ 16) (len-slots (s .args .slots) ss l) (s .pre .1)) (s .pre .2) p (a .before .before .before .before .if4 .left))),
-    )
+          (s .args .i) at (s .pre .0) (subst (λ (m : ℕ). m ≤ 16) (len-slots (s .args .slots) ss l) (s .pre .1)) (s .pre .2) p (a .before .before .before .before .if4 .left)));
+    }
 
 pub admit-row-spec : {M : Type 1} → statement M
 admit-row-spec =

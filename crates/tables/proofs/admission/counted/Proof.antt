@@ -2,7 +2,7 @@
 use borrow.Author.Needs.{needs}
 use mathlib.Core.Path.{sym, ap}
 use Rattle.units.specs.declared.Kind.{Kind}
-use Rattle.tables.specs.Rows.{counted}
+use Rattle.tables.specs.Held.{counted}
 use Rattle.tables.proofs.admission.counted.Statement.{statement}
 use Rattle.tables.proofs.admission.counted.Tie as tie
 

@@ -10,7 +10,8 @@ use lib.ListN.{length, drop}
 use Rattle.units.specs.declared.Factor.{Factor}
 use Rattle.units.specs.Lists.{some}
 use Rattle.tables.specs.Rows.{defOf}
-use Rattle.tables.proofs.Terms.{unmapped, nilFactor}
+use Rattle.exponents.proofs.Words.{unmapped}
+use Rattle.tables.proofs.Terms.{nilFactor}
 use Rattle.tables.proofs.Search.{found-one, found-none, none-left}
 use Rattle.tables.proofs.admission.names_ahead.Statement.{statement}
 use Rattle.tables.proofs.admission.names_ahead.Tie as tie

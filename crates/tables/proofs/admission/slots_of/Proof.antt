@@ -5,7 +5,8 @@ use Prim.Native.Nat.{_-_, _≤_}
 use native.Mathlib.Omega.{arith}
 use lib.ListN.{length}
 use Rattle.tables.specs.Rows.{rowsOf}
-use Rattle.tables.proofs.Terms.{unmapped, nilRow}
+use Rattle.exponents.proofs.Words.{unmapped}
+use Rattle.tables.proofs.Terms.{nilRow}
 use Rattle.tables.proofs.Slotting.{Slotting, slotting-none, slotting-on, slotting-end, long-rows, row-here}
 use Rattle.tables.proofs.admission.slots_of.Statement.{statement}
 use Rattle.tables.proofs.admission.slots_of.Tie as tie

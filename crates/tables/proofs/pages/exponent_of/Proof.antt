@@ -5,7 +5,7 @@ use Prim.Native.Nat.{ℕ, _+_, _*_}
 use native.Mathlib.Omega.{arith}
 use lib.IntN.{ℤ, pos}
 use lib.ListN.{List·getD-eq-default}
-use Rattle.tables.specs.Pages.{told}
+use Rattle.tables.specs.Held.{told}
 use Rattle.tables.proofs.pages.exponent_of.Statement.{statement}
 use Rattle.tables.proofs.pages.exponent_of.Tie as tie
 

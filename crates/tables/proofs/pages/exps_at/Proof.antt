@@ -6,8 +6,9 @@ use native.Mathlib.Omega.{arith}
 use lib.IntN.{pos}
 use lib.ListN.{length, take, drop, length-set}
 use Rattle.exponents.specs.declared.Exponent.{Exponent}
-use Rattle.tables.specs.Pages.{tops, bottoms}
-use Rattle.tables.proofs.Paging.{part-long, part-at, read-on, read-end}
+use Rattle.tables.specs.Held.{tops, bottoms}
+use Rattle.exponents.proofs.Places.{part-long, part-at}
+use Rattle.tables.proofs.Paging.{read-on, read-end}
 use Rattle.tables.proofs.pages.exps_at.Statement.{statement}
 use Rattle.tables.proofs.pages.exps_at.Tie as tie
 

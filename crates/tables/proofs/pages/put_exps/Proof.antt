@@ -1,6 +1,6 @@
 -- `put_exps` meets its contract. The invariant: those from s on are still to be put.
 use borrow.Author.Needs.{needs}
-use mathlib.Core.Path.{_≡_, refl, _∙_}
+use mathlib.Core.Path.{_≡_, refl, ap, _∙_}
 use mathlib.Core.List.{[]}
 use Prim.Native.Nat.{_≤_, _-_, _+_}
 use native.Mathlib.Omega.{arith}
@@ -11,8 +11,8 @@ use lib.Seq.{sets}
 use mir.Syntax.{w32}
 use mir.Val.{toZ, ofZ}
 use Rattle.exponents.specs.declared.Exponent.{Exponent}
-use Rattle.tables.specs.Pages.{tops, bottoms}
-use Rattle.tables.proofs.Paging.{put-on}
+use Rattle.tables.specs.Held.{tops, bottoms}
+use Rattle.exponents.proofs.Places.{rest, put-on}
 use Rattle.tables.proofs.pages.put_exps.Statement.{statement}
 use Rattle.tables.proofs.pages.put_exps.Tie as tie
 
@@ -67,8 +67,8 @@ loop-again c =
       omega arith,
       simp length-set (l .inv .1),
       simp length-set (l .inv .2),
-      rw v (put-on (λ (y : Exponent). y .num) (s .args .t4) (l .nums) (s .args .at) (l .s) d (omega arith)) ∙ l .inv .3,
-      put-on (λ (y : Exponent). y .den) (s .args .t4) (l .dens) (s .args .at) (l .s) d (omega arith) ∙ l .inv .4,
+      rw v (put-on (l .nums) _ _ _ (s .args .at) (l .s) (ap tops (rest (s .args .t4) d (l .s) (omega arith)))) ∙ l .inv .3,
+      put-on (l .dens) _ _ _ (s .args .at) (l .s) (ap bottoms (rest (s .args .t4) d (l .s) (omega arith))) ∙ l .inv .4,
     )
 
 same-length : tie.Need-same-length Inv-loop μ-loop

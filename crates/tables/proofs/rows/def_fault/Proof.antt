@@ -6,7 +6,8 @@ use native.Mathlib.Omega.{arith}
 use lib.ListN.{length, drop}
 use Rattle.units.specs.Lists.{some, factorFault}
 use Rattle.tables.specs.Rows.{defOf}
-use Rattle.tables.proofs.Terms.{unmapped, nilFactor}
+use Rattle.exponents.proofs.Words.{unmapped}
+use Rattle.tables.proofs.Terms.{nilFactor}
 use Rattle.tables.proofs.Search.{found-one, found-none, none-left}
 use Rattle.tables.proofs.rows.def_fault.Statement.{statement}
 use Rattle.tables.proofs.rows.def_fault.Tie as tie

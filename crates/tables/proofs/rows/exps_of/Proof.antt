@@ -10,9 +10,10 @@ use Rattle.exponents.specs.Fractions.{nought, sum?, faulty}
 use Rattle.exponents.specs.declared.Exponent.{Exponent}
 use Rattle.exponents.proofs.Numbers.{exact-given, refused-refuses}
 use Rattle.exponents.proofs.Sound.{nought-sound}
-use Rattle.tables.specs.Rows.{Facts, bases, defOf, packExps}
-use Rattle.tables.specs.Pages.{Reaching, Filed}
-use Rattle.tables.proofs.Terms.{nilFactor, unmapped, Defined, def-sound, row-below, exponent-is, termAt, term-sound, inner-on, inner-off, inner-end, Exping, exping-none, exping-on, exping-off, exping-end}
+use Rattle.tables.specs.Rows.{Facts, bases, defOf}
+use Rattle.tables.specs.Held.{packExps, Reaching, Filed}
+use Rattle.tables.proofs.Terms.{nilFactor, Defined, def-sound, row-below, exponent-is, termAt, term-sound, inner-on, inner-off, inner-end, Exping, exping-none, exping-on, exping-off, exping-end}
+use Rattle.exponents.proofs.Words.{unmapped}
 use Rattle.tables.proofs.rows.exps_of.Statement.{statement}
 use Rattle.tables.proofs.rows.exps_of.Tie as tie
 

@@ -3,7 +3,7 @@ use mathlib.Core.Path.{ap}
 use borrow.Author.Needs.{needs}
 use lib.ListN.{replicate}
 use Rattle.exponents.specs.declared.Exponent.{Exponent}
-use Rattle.tables.specs.Rows.{packExps}
+use Rattle.tables.specs.Held.{packExps}
 use Rattle.tables.proofs.rows.no_exps.Statement.{statement}
 use Rattle.tables.proofs.rows.no_exps.Tie as tie
 

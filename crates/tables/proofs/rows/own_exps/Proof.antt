@@ -8,7 +8,8 @@ use lib.ListN.{length, take, replicate, length-set}
 use Rattle.exponents.specs.Fractions.{nought}
 use Rattle.exponents.specs.declared.Exponent.{Exponent}
 use Rattle.tables.specs.declared.Slot.{Slot}
-use Rattle.tables.specs.Rows.{packSlots, packExps, selfExp}
+use Rattle.tables.specs.Held.{packSlots, packExps}
+use Rattle.tables.specs.Rows.{selfExp}
 use Rattle.tables.proofs.Placing.{len-slots}
 use Rattle.tables.proofs.Working.{own-on, own-end}
 use Rattle.tables.proofs.rows.own_exps.Statement.{statement}

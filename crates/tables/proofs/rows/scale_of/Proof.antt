@@ -7,10 +7,11 @@ use native.Mathlib.Omega.{arith}
 use lib.ListN.{length, drop, getD}
 use lib.Ieee.{Float, nan}
 use Rattle.floats.specs.Power.{one}
-use Rattle.tables.specs.Scale.{binary64, scaleFrom, scale, sizeBy}
+use Rattle.tables.specs.Scale.{doubles, scaleFrom, scale, sizeBy}
 use Rattle.tables.specs.Rows.{Facts, scaleAt, defOf}
-use Rattle.tables.specs.Pages.{Reaching, Sized}
-use Rattle.tables.proofs.Terms.{get-any, unmapped, nilFactor, Defined, row-below}
+use Rattle.tables.specs.Held.{Reaching, Sized}
+use Rattle.tables.proofs.Terms.{get-any, nilFactor, Defined, row-below}
+use Rattle.exponents.proofs.Words.{unmapped}
 use Rattle.tables.proofs.Scaling.{factor-on, factor-off, factors-end}
 use Rattle.tables.proofs.rows.scale_of.Statement.{statement}
 use Rattle.tables.proofs.rows.scale_of.Tie as tie
@@ -18,7 +19,7 @@ use Rattle.tables.proofs.rows.scale_of.Tie as tie
 abbrev Inv-loop : tie.InvT-loop
 Inv-loop scales row m acc₀ j₀ acc j =
     (j ≤ m)
-    × ((ks : List Facts) → Reaching ks (defOf row) → Sized ks scales → scaleFrom binary64 (sizeBy (scaleAt ks)) acc (drop j (defOf row)) ≡ scale binary64 (sizeBy (scaleAt ks)) (defOf row))
+    × ((ks : List Facts) → Reaching ks (defOf row) → Sized ks scales → scaleFrom doubles (sizeBy (scaleAt ks)) acc (drop j (defOf row)) ≡ scale doubles (sizeBy (scaleAt ks)) (defOf row))
 
 abbrev μ-loop : tie.MeasureT-loop
 μ-loop scales row m acc₀ j₀ acc j = m - j

@@ -3,7 +3,8 @@ use borrow.Author.Needs.{needs}
 use mathlib.Core.Path.{ap, _∙_}
 use mathlib.Core.List.{map}
 use Prim.Native.Nat.{ℕ}
-use Rattle.tables.specs.Rows.{packExps, selfExp, rowDerived, workedOf}
+use Rattle.tables.specs.Held.{packExps, rowDerived, workedOf}
+use Rattle.tables.specs.Rows.{selfExp}
 use Rattle.tables.proofs.Placing.{len-slots}
 use Rattle.tables.proofs.Working.{base-is, derived-is}
 use Rattle.tables.proofs.rows.work_out.Statement.{statement}

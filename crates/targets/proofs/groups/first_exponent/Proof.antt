@@ -5,8 +5,8 @@ use Prim.Native.Nat.{_-_, _≤_}
 use native.Mathlib.Omega.{arith}
 use mir.Syntax.{w32}
 use mir.Val.{toZ, ofZ}
-use Rattle.tables.specs.Pages.{told}
-use Rattle.targets.specs.Firsts.{firstTold}
+use Rattle.tables.specs.Held.{told}
+use Rattle.targets.specs.Held.{firstTold}
 use Rattle.targets.proofs.Fitted.{firstFrom, first-start, first-on, first-here, first-none}
 use Rattle.targets.proofs.groups.first_exponent.Statement.{statement}
 use Rattle.targets.proofs.groups.first_exponent.Tie as tie

@@ -1,19 +1,19 @@
 -- `group_at` meets its contract. The invariant: the places from i to j are one class and stand in g, which has as many as that.
 use borrow.Author.Needs.{needs}
-use mathlib.Core.Path.{_≡_}
+use mathlib.Core.Path.{_≡_, ap, _∙_}
 use mathlib.Core.List.{List}
 use Prim.Native.Nat.{_-_, _≤_, _<_}
 use native.Mathlib.Omega.{arith}
 use lib.ListN.{length}
 use Rattle.units.specs.declared.Factor.{Factor}
-use Rattle.tables.specs.Items.{View, packItems}
+use Rattle.tables.specs.Held.{View, packItems, Resolved}
 use Rattle.canonical.proofs.Seen.{len-items, read-items}
-use Rattle.targets.proofs.Grouping.{one-len, Grown, grown-one, grown-on, grown-off, grown-end, class-same, class-other}
+use Rattle.targets.proofs.Grouping.{one-len, by-class, Grown, grown-one, grown-on, grown-off, grown-end, class-same, class-other}
 use Rattle.targets.proofs.groups.group_at.Statement.{statement}
 use Rattle.targets.proofs.groups.group_at.Tie as tie
 
 abbrev Inv-loop : tie.InvT-loop
-Inv-loop i c n g₀ j₀ g j = (i < j) × (j ≤ 16) × (g .len ≡ j - i) × ((v : View) (fs : List Factor) → c ≡ packItems v fs → length fs ≤ 16 → i < length fs → Grown v fs i g j)
+Inv-loop i c n g₀ j₀ g j = (i < j) × (j ≤ 16) × (g .len ≡ j - i) × ((v : View) (fs : List Factor) → Resolved v c fs → i < length fs → Grown v fs i g j)
 
 abbrev μ-loop : tie.MeasureT-loop
 μ-loop i c n g₀ j₀ g j = n - j
@@ -40,7 +40,7 @@ loop-holds c =
       omega arith,
       omega arith,
       omega arith,
-      λ v fs e h k. grown-one v fs (a .i) _ _ k (read-items v fs (a .t1) e (a .i) _ k) (c .alone .ensures),
+      λ v fs r k. grown-one v fs (a .i) _ _ k (read-items v fs (a .t1) (r .is) (a .i) _ k) (c .alone .ensures),
     )
 
 sub-y : tie.Need-sub-y Inv-loop μ-loop
@@ -64,10 +64,12 @@ returns c =
     let m = c .before .before .before .before .before .before .before .before .before in
     let a = m .before .args in (
       (omega arith, omega arith),
-      λ v fs e h l.
-          let n = len-items v fs (a .t1) e in
+      λ v fs r l.
+          let n = len-items v fs (a .t1) (r .is) in
+          let h = r .short in
           let same = m .capped .ensures .1 (omega arith) in
-          grown-off v fs (a .i) (k .g) (k .j) (k .inv .3 v fs e h l) (omega arith) (class-other v fs (a .t1) e (k .j - 1) (k .j) (omega arith) (omega arith) _ (c .if1 .taken)),
+          grown-off v fs (a .i) (k .g) (k .j) (k .inv .3 v fs r l) (omega arith) (class-other v fs (a .t1) (r .is) (k .j - 1) (k .j) (omega arith) (omega arith) _ (c .if1 .taken))
+          ∙ ap (packItems v) (by-class r (a .i)),
     )
 
 sub-k : tie.Need-sub-k Inv-loop μ-loop
@@ -96,11 +98,12 @@ loop-again c =
       omega arith,
       omega arith,
       omega arith,
-      λ v fs e h l.
-          let n = len-items v fs (a .t1) e in
+      λ v fs r l.
+          let n = len-items v fs (a .t1) (r .is) in
+          let h = r .short in
           let same = m .capped .ensures .1 (omega arith) in
-          grown-on v fs (a .i) (k .g) (k .j) (k .inv .3 v fs e h l) (omega arith) (class-same v fs (a .t1) e (k .j - 1) (k .j) (omega arith) (omega arith) _ (c .if1 .left)) (omega arith) (omega arith) _
-          (read-items v fs (a .t1) e (k .j) _ (omega arith)),
+          grown-on v fs (a .i) (k .g) (k .j) (k .inv .3 v fs r l) (omega arith) (class-same v fs (a .t1) (r .is) (k .j - 1) (k .j) (omega arith) (omega arith) _ (c .if1 .left)) (omega arith) (omega arith) _
+          (read-items v fs (a .t1) (r .is) (k .j) _ (omega arith)),
     )
 
 returns-2 : tie.Need-returns-2 Inv-loop μ-loop
@@ -109,10 +112,11 @@ returns-2 c =
     let m = c .before .before .before .before in
     let a = m .before .args in (
       (omega arith, omega arith),
-      λ v fs e h l.
-          let n = len-items v fs (a .t1) e in
+      λ v fs r l.
+          let n = len-items v fs (a .t1) (r .is) in
+          let h = r .short in
           let same = m .capped .ensures .1 (omega arith) in
-          grown-end v fs (a .i) (k .g) (k .j) (k .inv .3 v fs e h l) (omega arith),
+          grown-end v fs (a .i) (k .g) (k .j) (k .inv .3 v fs r l) (omega arith) ∙ ap (packItems v) (by-class r (a .i)),
     )
 
 pub group-at-spec : {M : Type 1} → statement M

@@ -8,14 +8,14 @@ use native.Mathlib.Omega.{arith}
 use lib.ListN.{length, take}
 use lib.Seq.{take-all}
 use Rattle.units.specs.declared.Factor.{Factor}
-use Rattle.tables.specs.Items.{View, packItems}
+use Rattle.tables.specs.Held.{View, packItems, Resolved}
 use Rattle.canonical.proofs.Seen.{len-items, read-items}
 use Rattle.targets.proofs.Grouping.{joined-long, joined-on}
 use Rattle.targets.proofs.groups.joined.Statement.{statement}
 use Rattle.targets.proofs.groups.joined.Tie as tie
 
 abbrev Inv-loop : tie.InvT-loop
-Inv-loop m n o₀ i₀ o i = (i ≤ n) × ((v : View) (fs gs : List Factor) → o₀ ≡ packItems v fs → m ≡ packItems v gs → length fs + length gs ≤ 16 → o ≡ packItems v (fs ++ take i gs))
+Inv-loop m n o₀ i₀ o i = (i ≤ n) × ((v : View) (fs gs : List Factor) → Resolved v o₀ fs → Resolved v m gs → length fs + length gs ≤ 16 → o ≡ packItems v (fs ++ take i gs))
 
 abbrev μ-loop : tie.MeasureT-loop
 μ-loop m n o₀ i₀ o i = n - i
@@ -24,7 +24,7 @@ capped-requires : tie.Need-capped-requires Inv-loop μ-loop
 capped-requires c κs = search needs
 
 loop-holds : tie.Need-loop-holds Inv-loop μ-loop
-loop-holds c = (omega arith, λ v fs gs e q h. e ∙ ap (packItems v) (sym (append-nil fs)))
+loop-holds c = (omega arith, λ v fs gs r s h. r .is ∙ ap (packItems v) (sym (append-nil fs)))
 
 mul-o : tie.Need-mul-o Inv-loop μ-loop
 mul-o c = search needs
@@ -53,24 +53,24 @@ loop-again c =
     let m = c .before .before .before in
     let b = m .before .args .t2 in (
       omega arith,
-      λ v fs gs e q h.
-          let n = len-items v gs b q in
+      λ v fs gs r s h.
+          let n = len-items v gs b (s .is) in
           let same = m .capped .ensures .1 (omega arith) in
-          let s = k .inv .1 v fs gs e q h in
-          let long = joined-long v fs gs (k .i) (k .o) s (omega arith) in
+          let done = k .inv .1 v fs gs r s h in
+          let long = joined-long v fs gs (k .i) (k .o) done (omega arith) in
           ⊎-elim
-          (λ w. w .2 ∙ joined-on v fs gs (k .i) (k .o) s _ (omega arith) h (read-items v gs b q (k .i) _ (omega arith)))
+          (λ w. w .2 ∙ joined-on v fs gs (k .i) (k .o) done _ (omega arith) h (read-items v gs b (s .is) (k .i) _ (omega arith)))
           (λ w. absurd (omega (arith, w .0 .left)))
           (c .if1 .came),
     )
 
 returns : tie.Need-returns Inv-loop μ-loop
-returns c v fs gs e q h =
+returns c v fs gs r s h =
     let k = c .before .loop in
     let m = c .before .before in
-    let n = len-items v gs (m .before .args .t2) q in
+    let n = len-items v gs (m .before .args .t2) (s .is) in
     let same = m .capped .ensures .1 (omega arith) in
-    k .inv .1 v fs gs e q h ∙ ap (λ l. packItems v (fs ++ l)) (take-all (k .i) gs (omega arith))
+    k .inv .1 v fs gs r s h ∙ ap (λ l. packItems v (fs ++ l)) (take-all (k .i) gs (omega arith))
 
 pub joined-spec : {M : Type 1} → statement M
 joined-spec =

@@ -8,7 +8,7 @@ use Prim.Native.Nat.{ℕ, _+_, _-_, _≤_, _<_}
 use native.Mathlib.Omega.{arith}
 use lib.ListN.{length, drop, getD}
 use Rattle.units.specs.declared.Factor.{Factor}
-use Rattle.tables.specs.Items.{View, packItems}
+use Rattle.tables.specs.Held.{View, packItems}
 use Rattle.reduction.proofs.Resolved.{items-len, item-at}
 use Rattle.targets.specs.Groups.{greatest}
 use Rattle.targets.proofs.Grouping.{greatest-stays, greatest-moves, greatest-end}

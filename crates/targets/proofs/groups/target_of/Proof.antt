@@ -4,7 +4,7 @@ use mathlib.Core.Path.{sym, ap, _∙_}
 use native.Mathlib.Omega.{arith}
 use lib.ListN.{length}
 use Rattle.tables.specs.Lists.{base}
-use Rattle.tables.specs.Items.{viewBases, packItems}
+use Rattle.tables.specs.Held.{viewBases, packItems}
 use Rattle.reduction.proofs.Handed.{exps-given, exps-refused}
 use Rattle.targets.proofs.Fitted.{told-first, target-range, target-scalar, chosen, fitted-on, fitted-off}
 use Rattle.targets.proofs.groups.target_of.Statement.{statement}
@@ -17,10 +17,10 @@ empty-but-requires : tie.Need-empty-but-requires
 empty-but-requires c κs = search needs
 
 returns : tie.Need-returns
-returns c v lent short fs e h k q =
+returns c v fs lends r =
     let x = c .before .before .before in
     let n = x .before .before .args .n in
-    c .empty-but .ensures ∙ target-range v n fs _ (exps-refused (base (viewBases v n) fs) (x .base-of .result) (x .base-of .ensures v lent fs e h k q) (c .before .if1 .taken))
+    c .empty-but .ensures ∙ target-range v n fs _ (exps-refused (base (viewBases v n) fs) (x .base-of .result) (x .base-of .ensures v fs lends r) (c .before .if1 .taken))
 
 all-zero-requires : tie.Need-all-zero-requires
 all-zero-requires c κs = search needs
@@ -29,12 +29,12 @@ empty-but-requires-2 : tie.Need-empty-but-requires-2
 empty-but-requires-2 c κs = search needs
 
 returns-2 : tie.Need-returns-2
-returns-2 c v lent short fs e h k q =
+returns-2 c v fs lends r =
     let z = c .before .before in
     let f = z .before .before in
     let x = f .before .before in
     let n = x .before .before .args .n in
-    let b = exps-given (base (viewBases v n) fs) (x .base-of .result) (x .base-of .ensures v lent fs e h k q) (f .if1 .left) in
+    let b = exps-given (base (viewBases v n) fs) (x .base-of .result) (x .base-of .ensures v fs lends r) (f .if1 .left) in
     c .empty-but2 .ensures ∙ target-scalar v n fs (b .exps) (x .base-of .result .at) (b .is) (b .at) (sym (z .all-zero .ensures) ∙ c .before .if2 .taken)
 
 representative-requires : tie.Need-representative-requires
@@ -68,7 +68,7 @@ empty-but-requires-3 : tie.Need-empty-but-requires-3
 empty-but-requires-3 c κs = search needs
 
 returns-3 : tie.Need-returns-3
-returns-3 c v lent short fs e h k q =
+returns-3 c v fs lends r =
     let s = c .before .before .before .before .before in
     let d = s .before in
     let p = d .before .before .before in
@@ -76,14 +76,14 @@ returns-3 c v lent short fs e h k q =
     let f = z .before .before in
     let x = f .before .before in
     let a = x .before .before .args in
-    let b = exps-given (base (viewBases v (a .n)) fs) (x .base-of .result) (x .base-of .ensures v lent fs e h k q) (f .if1 .left) in
+    let b = exps-given (base (viewBases v (a .n)) fs) (x .base-of .result) (x .base-of .ensures v fs lends r) (f .if1 .left) in
     let m =
-    chosen v (a .n) (a .t1) fs e (b .exps) (x .base-of .result .at) (b .is) (b .at) (sym (z .all-zero .ensures) ∙ p .before .if2 .left) (p .representative .result)
-    (λ g gs w. p .representative .ensures .1 v g gs (e ∙ ap (packItems v) w) (omega (arith, ap length w))) in
-    fitted-on v (a .n) fs _ m (d .first-exponent .result) (d .first-exponent .ensures ∙ told-first v (a .nums .now) (a .dens .now) lent short _) (s .summed .result) (s .summed .ensures v lent short fs e h) _ (c .before .before .before .s .given .1) (c .before .at-exponent .result) (c .before .at-exponent .ensures) _ (c .alone .ensures)
+    chosen v (a .n) (a .t1) fs (r .is) (b .exps) (x .base-of .result .at) (b .is) (b .at) (sym (z .all-zero .ensures) ∙ p .before .if2 .left) (p .representative .result)
+    (λ g gs w. p .representative .ensures .1 v g gs (r .is ∙ ap (packItems v) w) (omega (arith, r .short, ap length w))) in
+    fitted-on v (a .n) fs _ m (d .first-exponent .result) (d .first-exponent .ensures ∙ told-first lends _) (s .summed .result) (s .summed .ensures v (a .n) fs lends r) _ (c .before .before .before .s .given .1) (c .before .at-exponent .result) (c .before .at-exponent .ensures) _ (c .alone .ensures)
 
 returns-4 : tie.Need-returns-4
-returns-4 c v lent short fs e h k q =
+returns-4 c v fs lends r =
     let s = c .before .before .before .before in
     let d = s .before in
     let p = d .before .before .before in
@@ -91,11 +91,11 @@ returns-4 c v lent short fs e h k q =
     let f = z .before .before in
     let x = f .before .before in
     let a = x .before .before .args in
-    let b = exps-given (base (viewBases v (a .n)) fs) (x .base-of .result) (x .base-of .ensures v lent fs e h k q) (f .if1 .left) in
+    let b = exps-given (base (viewBases v (a .n)) fs) (x .base-of .result) (x .base-of .ensures v fs lends r) (f .if1 .left) in
     let m =
-    chosen v (a .n) (a .t1) fs e (b .exps) (x .base-of .result .at) (b .is) (b .at) (sym (z .all-zero .ensures) ∙ p .before .if2 .left) (p .representative .result)
-    (λ g gs w. p .representative .ensures .1 v g gs (e ∙ ap (packItems v) w) (omega (arith, ap length w))) in
-    c .empty-but3 .ensures ∙ fitted-off v (a .n) fs _ m (d .first-exponent .result) (d .first-exponent .ensures ∙ told-first v (a .nums .now) (a .dens .now) lent short _) (s .summed .result) (s .summed .ensures v lent short fs e h) _ (c .before .before .s2 .given .1)
+    chosen v (a .n) (a .t1) fs (r .is) (b .exps) (x .base-of .result .at) (b .is) (b .at) (sym (z .all-zero .ensures) ∙ p .before .if2 .left) (p .representative .result)
+    (λ g gs w. p .representative .ensures .1 v g gs (r .is ∙ ap (packItems v) w) (omega (arith, r .short, ap length w))) in
+    c .empty-but3 .ensures ∙ fitted-off v (a .n) fs _ m (d .first-exponent .result) (d .first-exponent .ensures ∙ told-first lends _) (s .summed .result) (s .summed .ensures v (a .n) fs lends r) _ (c .before .before .s2 .given .1)
 
 pub target-of-spec : {M : Type 1} → statement M
 target-of-spec =

@@ -30,27 +30,27 @@ enum-known-x-2 : tie.Need-enum-known-x-2
 enum-known-x-2 c = search needs
 
 returns : tie.Need-returns
-returns c v lent short f e =
+returns c v n f lends e =
     let q = c .before .before .before .before in
     let p = q .before .before .before .before in
     let w = p .before in
     let a = w .before .before .before .before .args in
-    c .sum .ensures ∙ share-on v (a .d) (a .acc) (a .it) f e _ (w .first-exponent .ensures ∙ told-first v (a .nums .now) (a .dens .now) lent short (a .it .factor .row)) _ (sym (p .product .ensures) ∙ q .before .before .x .given .1) _ (sym (q .quotient .ensures) ∙ c .before .before .y .given .1)
+    c .sum .ensures ∙ share-on v (a .d) (a .acc) (a .it) f e _ (w .first-exponent .ensures ∙ told-first lends (a .it .factor .row)) _ (sym (p .product .ensures) ∙ q .before .before .x .given .1) _ (sym (q .quotient .ensures) ∙ c .before .before .y .given .1)
 
 returns-2 : tie.Need-returns-2
-returns-2 c v lent short f e =
+returns-2 c v n f lends e =
     let q = c .before .before .before in
     let p = q .before .before .before .before in
     let w = p .before in
     let a = w .before .before .before .before .args in
-    share-apart v (a .d) (a .acc) (a .it) f e _ (w .first-exponent .ensures ∙ told-first v (a .nums .now) (a .dens .now) lent short (a .it .factor .row)) _ (sym (p .product .ensures) ∙ q .before .before .x .given .1) _ (sym (q .quotient .ensures) ∙ c .before .y2 .given .1)
+    share-apart v (a .d) (a .acc) (a .it) f e _ (w .first-exponent .ensures ∙ told-first lends (a .it .factor .row)) _ (sym (p .product .ensures) ∙ q .before .before .x .given .1) _ (sym (q .quotient .ensures) ∙ c .before .y2 .given .1)
 
 returns-3 : tie.Need-returns-3
-returns-3 c v lent short f e =
+returns-3 c v n f lends e =
     let p = c .before .before .before in
     let w = p .before in
     let a = w .before .before .before .before .args in
-    share-off v (a .d) (a .acc) (a .it) f e _ (w .first-exponent .ensures ∙ told-first v (a .nums .now) (a .dens .now) lent short (a .it .factor .row)) _ (sym (p .product .ensures) ∙ c .before .x2 .given .1)
+    share-off v (a .d) (a .acc) (a .it) f e _ (w .first-exponent .ensures ∙ told-first lends (a .it .factor .row)) _ (sym (p .product .ensures) ∙ c .before .x2 .given .1)
 
 pub with-share-spec : {M : Type 1} → statement M
 with-share-spec =

@@ -3,7 +3,7 @@ use borrow.Author.Needs.{needs}
 use mathlib.Core.Path.{ap}
 use lib.ListN.{set}
 use Rattle.tables.specs.declared.Items.{Items}
-use Rattle.tables.specs.Items.{packed}
+use Rattle.tables.specs.Held.{packed}
 use Rattle.targets.proofs.single.alone.Statement.{statement}
 use Rattle.targets.proofs.single.alone.Tie as tie
 

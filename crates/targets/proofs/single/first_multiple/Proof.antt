@@ -13,8 +13,8 @@ use Rattle.exponents.specs.Outcome.{given}
 use Rattle.exponents.specs.Fractions.{nought, unit, faulty}
 use Rattle.exponents.specs.declared.Exponent.{Exponent}
 use Rattle.units.specs.declared.Factor.{Factor}
-use Rattle.tables.specs.Items.{View}
-use Rattle.tables.proofs.Terms.{unmapped}
+use Rattle.tables.specs.Held.{View}
+use Rattle.exponents.proofs.Words.{unmapped}
 use Rattle.canonical.specs.Canonical.{sameAll}
 use Rattle.reduction.specs.Multiple.{firstBase, fits}
 use Rattle.reduction.proofs.Fitting.{fitsFrom, fits-start, fits-on, fits-off, multiple-one}
@@ -108,8 +108,8 @@ One f v cs i q = whole v (f .before .before .before .before .args .n) cs ≡ giv
 module _ (v : View) (cs : List Factor) (xs : List Exponent) where
   long : (f : AtFactors) → HadAt f v cs xs → f .before .before .capped .result ≡ length cs
   long f g =
-      let n = items-len v (f .before .before .before .before .args .t1) cs (g .list) in
-      f .before .before .capped .ensures .1 (omega (arith, g .short)) ∙ n
+      let n = items-len v (f .before .before .before .before .args .t1) cs (g .list .is) in
+      f .before .before .capped .ensures .1 (omega (arith, g .list .short)) ∙ n
 
   turn : (c : Based) → HadAt (factorsOf c) v cs xs → Turn v (factorsOf c .before .before .before .before .args .n) cs (factorsOf c .factors .i) (c .before .base-of-item .result)
   turn c g =
@@ -118,7 +118,7 @@ module _ (v : View) (cs : List Factor) (xs : List Exponent) where
       record {
         so-far = f .factors .inv .3 v cs xs g;
         here = h;
-        is = c .before .base-of-item .ensures v (g .lent) (single cs (f .factors .i) unit) (item-is g (f .factors .i) nilItem _ unit h (c .before .before .at-exponent .ensures)) unit-rule (g .rows);
+        is = c .before .base-of-item .ensures v (single cs (f .factors .i) unit) (g .lends) (item-is g (f .factors .i) nilItem _ unit h (c .before .before .at-exponent .ensures)) unit-rule;
       }
 
 apart : (c : Differs) → sameAll (xOf c) (yOf c) ≡ false
@@ -205,8 +205,8 @@ empty-but-requires : tie.Need-empty-but-requires Inv-loop μ-loop Inv-factors μ
 empty-but-requires c κs = search needs
 
 returns : tie.Need-returns Inv-loop μ-loop Inv-factors μ-factors
-returns c v lent cs xs e f b h k =
-    let g : HadAt (factorsOf (c .before .before)) v cs xs = record { lent = lent; list = e; exps = f; based = b; short = h; rows = k } in
+returns c v cs xs lends r f b =
+    let g : HadAt (factorsOf (c .before .before)) v cs xs = record { lends = lends; list = r; exps = f; based = b } in
     c .empty-but .ensures ∙ base-off g (turn v cs xs (c .before .before) g) (c .before .if1 .taken)
 
 same-exponents-requires : tie.Need-same-exponents-requires Inv-loop μ-loop Inv-factors μ-factors
@@ -264,11 +264,11 @@ empty-but-requires-2 : tie.Need-empty-but-requires-2 Inv-loop μ-loop Inv-factor
 empty-but-requires-2 c κs = search needs
 
 returns-2 : tie.Need-returns-2 Inv-loop μ-loop Inv-factors μ-factors
-returns-2 c v lent cs xs e f b h k =
+returns-2 c v cs xs lends r f b =
     let p = c .before .before .before .before in
     let l : AtLoop = p .before .before .before in
     let o = differsOf (dividedOf l) in
-    let g : HadAt (factorsOf (baseOf o)) v cs xs = record { lent = lent; list = e; exps = f; based = b; short = h; rows = k } in
+    let g : HadAt (factorsOf (baseOf o)) v cs xs = record { lends = lends; list = r; exps = f; based = b } in
     let r = rule l in
     let in-loop = p .before .before .loop-test .taken in
     c .empty-but2 .ensures
@@ -294,10 +294,10 @@ empty-but-requires-3 : tie.Need-empty-but-requires-3 Inv-loop μ-loop Inv-factor
 empty-but-requires-3 c κs = search needs
 
 returns-3 : tie.Need-returns-3 Inv-loop μ-loop Inv-factors μ-factors
-returns-3 c v lent cs xs e f b h k =
+returns-3 c v cs xs lends r f b =
     let d : Divided = c .before .before .before .before in
     let o = differsOf d in
-    let g : HadAt (factorsOf (baseOf o)) v cs xs = record { lent = lent; list = e; exps = f; based = b; short = h; rows = k } in
+    let g : HadAt (factorsOf (baseOf o)) v cs xs = record { lends = lends; list = r; exps = f; based = b } in
     c .empty-but3 .ensures ∙ multiple-off g (turn v cs xs (baseOf o) g) (o .before .before .before .if1 .left) _ (division d .ends _ (c .before .before .d2 .given .1))
 
 add-i : tie.Need-add-i Inv-loop μ-loop Inv-factors μ-factors
@@ -341,9 +341,9 @@ alone-requires : tie.Need-alone-requires Inv-loop μ-loop Inv-factors μ-factors
 alone-requires c κs = search needs
 
 returns-4 : tie.Need-returns-4 Inv-loop μ-loop Inv-factors μ-factors
-returns-4 c v lent cs xs e f b h k =
+returns-4 c v cs xs lends r f b =
     let l : Left = c .before .before .before .before .before in
-    let g : HadAt (l .before) v cs xs = record { lent = lent; list = e; exps = f; based = b; short = h; rows = k } in
+    let g : HadAt (l .before) v cs xs = record { lends = lends; list = r; exps = f; based = b } in
     let i = c .before .before .before .before .if6 .taken in
     answer-one v (c .alone .result) (c .before .at-exponent2 .result) (single cs (l .factors-test .hit) (l .factors-test .power)) (c .alone .ensures)
     (item-is g (l .factors-test .hit) nilItem _ (l .factors-test .power) (omega (arith, i, long v cs xs (l .before) g)) (c .before .at-exponent2 .ensures))
@@ -353,9 +353,9 @@ empty-but-requires-4 : tie.Need-empty-but-requires-4 Inv-loop μ-loop Inv-factor
 empty-but-requires-4 c κs = search needs
 
 returns-5 : tie.Need-returns-5 Inv-loop μ-loop Inv-factors μ-factors
-returns-5 c v lent cs xs e f b h k =
+returns-5 c v cs xs lends r f b =
     let l : Left = c .before .before in
-    let g : HadAt (l .before) v cs xs = record { lent = lent; list = e; exps = f; based = b; short = h; rows = k } in
+    let g : HadAt (l .before) v cs xs = record { lends = lends; list = r; exps = f; based = b } in
     c .empty-but4 .ensures ∙ answer-none v (⊎-elim (λ w. w .1) (λ w. absurd (omega (arith, w .0, c .before .if6 .left))) (after v cs xs l g))
 
 pub first-multiple-spec : {M : Type 1} → statement M

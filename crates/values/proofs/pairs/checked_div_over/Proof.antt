@@ -4,8 +4,7 @@ use mathlib.Core.Path.{sym, ap, _∙_}
 use mathlib.Core.Bool.{true}
 use lib.Ieee.{binary64, div}
 use Rattle.units.specs.Lists.{quotient}
-use Rattle.tables.specs.Rows.{admit}
-use Rattle.lists.specs.Opening.{table, baseRows}
+use Rattle.tables.specs.Rows.{admit, table, baseRows}
 use Rattle.lists.proofs.Checks.{admitted-by, table-refuses}
 use Rattle.lists.proofs.Ends.{bind-refuses}
 use Rattle.values.specs.Quantities.{answeredOf}

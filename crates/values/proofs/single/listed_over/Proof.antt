@@ -11,8 +11,7 @@ use Rattle.units.specs.Lists.{listOf, refusedBy, madeOf, checked}
 use Rattle.units.proofs.Laws.{len-pack}
 use Rattle.units.proofs.Checked.{short, passes, goes-on}
 use Rattle.tables.specs.declared.Admitted.{Admitted}
-use Rattle.tables.specs.Rows.{admit}
-use Rattle.lists.specs.Opening.{known, table, baseRows}
+use Rattle.tables.specs.Rows.{admit, known, table, baseRows}
 use Rattle.lists.proofs.Checks.{admitted-by, table-refuses}
 use Rattle.lists.proofs.Ends.{handed, bind-refuses, made-given}
 use Rattle.values.specs.Calls.{listed}

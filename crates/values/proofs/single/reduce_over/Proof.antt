@@ -14,21 +14,21 @@ refused-requires c κs = search needs
 
 returns : tie.Need-returns
 unfolding reduce
-returns c rows e tells =
+returns c rows o =
     let s = c .before .before .before .before .before .args in
     let m = c .before .before .before .reduce-list-over in
-    reduced-refused (s .q .value) (reduction rows (s .q .unit)) (m .result) (c .refused .result) (m .ensures rows (s .q .unit) e tells) (c .before .if1 .taken) (c .refused .ensures)
+    reduced-refused (s .q .value) (reduction rows (s .q .unit)) (m .result) (c .refused .result) (m .ensures rows (s .q .unit) o) (c .before .if1 .taken) (c .refused .ensures)
 
 with-mark-requires : tie.Need-with-mark-requires
 with-mark-requires c κs = search needs
 
 returns-2 : tie.Need-returns-2
 unfolding reduce
-returns-2 c rows e tells =
+returns-2 c rows o =
     let d = c .before .before .before .before in
     let s = d .before .before .before .before .args in
     let m = d .before .before .reduce-list-over in
-    reduced-kept (s .q .value) (reduction rows (s .q .unit)) (m .result) (c .with-mark .result) (m .ensures rows (s .q .unit) e tells) (d .if1 .left) (c .with-mark .ensures)
+    reduced-kept (s .q .value) (reduction rows (s .q .unit)) (m .result) (c .with-mark .result) (m .ensures rows (s .q .unit) o) (d .if1 .left) (c .with-mark .ensures)
 
 pub reduce-over-spec : {M : Type 1} → statement M
 reduce-over-spec =

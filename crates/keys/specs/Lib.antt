@@ -1,0 +1,3 @@
+pub mod Orders
+pub mod Key
+pub mod Held

@@ -1,0 +1,3 @@
+// Keys of rows (01, "Canonical form"), made of base exponents, and their order.
+pub mod making; // a row's key
+pub mod order; // comparing keys
