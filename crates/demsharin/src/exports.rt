@@ -1,13 +1,15 @@
 // Every call of the byte form as a C function over lent bytes: the table, the arguments in order, then the room for the
 // answer, each as a pointer and a length; the refusal's number, 0 for answered.
-ghost use Rattle.requests.specs.Calls as spec;
+ghost use Rattle.asklists.specs.Calls as lists;
+ghost use Rattle.askvalues.specs.Calls as values;
+ghost use Rattle.asksimplify.specs.Calls as simplify;
 ghost use Rattle.demsharin.specs.Exports.{Exported};
 
 #[no_mangle]
 pub extern "C" fn demsharin_prefix_factor(prefix: &[u8], out: &mut [u8]) -> u32
-    ensures { λ r. ⌜ Exported (now (out .entry)) (spec.prefixFactor (now (prefix .entry))) r (now (out .exit)) ⌝ }
+    ensures { λ r. ⌜ Exported (now (out .entry)) (lists.prefixFactor (now (prefix .entry))) r (now (out .exit)) ⌝ }
 {
-    let r = requests::prefix_factor(prefix, out);
+    let r = asklists::prefix_factor(prefix, out);
     r.refusal
 }
 
@@ -15,17 +17,17 @@ pub extern "C" fn demsharin_prefix_factor(prefix: &[u8], out: &mut [u8]) -> u32
 
 #[no_mangle]
 pub extern "C" fn demsharin_product(table: &[u8], a: &[u8], b: &[u8], out: &mut [u8]) -> u32
-    ensures { λ r. ⌜ Exported (now (out .entry)) (spec.product (now (table .entry)) (now (a .entry)) (now (b .entry))) r (now (out .exit)) ⌝ }
+    ensures { λ r. ⌜ Exported (now (out .entry)) (lists.product (now (table .entry)) (now (a .entry)) (now (b .entry))) r (now (out .exit)) ⌝ }
 {
-    let r = requests::product(table, a, b, out);
+    let r = asklists::product(table, a, b, out);
     r.refusal
 }
 
 #[no_mangle]
 pub extern "C" fn demsharin_quotient(table: &[u8], a: &[u8], b: &[u8], out: &mut [u8]) -> u32
-    ensures { λ r. ⌜ Exported (now (out .entry)) (spec.quotient (now (table .entry)) (now (a .entry)) (now (b .entry))) r (now (out .exit)) ⌝ }
+    ensures { λ r. ⌜ Exported (now (out .entry)) (lists.quotient (now (table .entry)) (now (a .entry)) (now (b .entry))) r (now (out .exit)) ⌝ }
 {
-    let r = requests::quotient(table, a, b, out);
+    let r = asklists::quotient(table, a, b, out);
     r.refusal
 }
 
@@ -36,49 +38,49 @@ pub extern "C" fn demsharin_list_power(
     exponent: &[u8],
     out: &mut [u8],
 ) -> u32
-    ensures { λ r. ⌜ Exported (now (out .entry)) (spec.listPower (now (table .entry)) (now (list .entry)) (now (exponent .entry))) r (now (out .exit)) ⌝ }
+    ensures { λ r. ⌜ Exported (now (out .entry)) (lists.listPower (now (table .entry)) (now (list .entry)) (now (exponent .entry))) r (now (out .exit)) ⌝ }
 {
-    let r = requests::list_power(table, list, exponent, out);
+    let r = asklists::list_power(table, list, exponent, out);
     r.refusal
 }
 
 #[no_mangle]
 pub extern "C" fn demsharin_canonical(table: &[u8], list: &[u8], out: &mut [u8]) -> u32
-    ensures { λ r. ⌜ Exported (now (out .entry)) (spec.canonical (now (table .entry)) (now (list .entry))) r (now (out .exit)) ⌝ }
+    ensures { λ r. ⌜ Exported (now (out .entry)) (lists.canonical (now (table .entry)) (now (list .entry))) r (now (out .exit)) ⌝ }
 {
-    let r = requests::canonical(table, list, out);
+    let r = asklists::canonical(table, list, out);
     r.refusal
 }
 
 #[no_mangle]
 pub extern "C" fn demsharin_same_list(table: &[u8], a: &[u8], b: &[u8], out: &mut [u8]) -> u32
-    ensures { λ r. ⌜ Exported (now (out .entry)) (spec.sameList (now (table .entry)) (now (a .entry)) (now (b .entry))) r (now (out .exit)) ⌝ }
+    ensures { λ r. ⌜ Exported (now (out .entry)) (lists.sameList (now (table .entry)) (now (a .entry)) (now (b .entry))) r (now (out .exit)) ⌝ }
 {
-    let r = requests::same_list(table, a, b, out);
+    let r = asklists::same_list(table, a, b, out);
     r.refusal
 }
 
 #[no_mangle]
 pub extern "C" fn demsharin_reduce_list(table: &[u8], list: &[u8], out: &mut [u8]) -> u32
-    ensures { λ r. ⌜ Exported (now (out .entry)) (spec.reduceList (now (table .entry)) (now (list .entry))) r (now (out .exit)) ⌝ }
+    ensures { λ r. ⌜ Exported (now (out .entry)) (lists.reduceList (now (table .entry)) (now (list .entry))) r (now (out .exit)) ⌝ }
 {
-    let r = requests::reduce_list(table, list, out);
+    let r = asklists::reduce_list(table, list, out);
     r.refusal
 }
 
 #[no_mangle]
 pub extern "C" fn demsharin_smaller_unit(table: &[u8], a: &[u8], b: &[u8], out: &mut [u8]) -> u32
-    ensures { λ r. ⌜ Exported (now (out .entry)) (spec.smallerUnit (now (table .entry)) (now (a .entry)) (now (b .entry))) r (now (out .exit)) ⌝ }
+    ensures { λ r. ⌜ Exported (now (out .entry)) (lists.smallerUnit (now (table .entry)) (now (a .entry)) (now (b .entry))) r (now (out .exit)) ⌝ }
 {
-    let r = requests::smaller_unit(table, a, b, out);
+    let r = asklists::smaller_unit(table, a, b, out);
     r.refusal
 }
 
 #[no_mangle]
 pub extern "C" fn demsharin_is_multiple_of(table: &[u8], a: &[u8], b: &[u8], out: &mut [u8]) -> u32
-    ensures { λ r. ⌜ Exported (now (out .entry)) (spec.isMultipleOf (now (table .entry)) (now (a .entry)) (now (b .entry))) r (now (out .exit)) ⌝ }
+    ensures { λ r. ⌜ Exported (now (out .entry)) (lists.isMultipleOf (now (table .entry)) (now (a .entry)) (now (b .entry))) r (now (out .exit)) ⌝ }
 {
-    let r = requests::is_multiple_of(table, a, b, out);
+    let r = asklists::is_multiple_of(table, a, b, out);
     r.refusal
 }
 
@@ -86,33 +88,33 @@ pub extern "C" fn demsharin_is_multiple_of(table: &[u8], a: &[u8], b: &[u8], out
 
 #[no_mangle]
 pub extern "C" fn demsharin_reduce(table: &[u8], quantity: &[u8], out: &mut [u8]) -> u32
-    ensures { λ r. ⌜ Exported (now (out .entry)) (spec.reduce (now (table .entry)) (now (quantity .entry))) r (now (out .exit)) ⌝ }
+    ensures { λ r. ⌜ Exported (now (out .entry)) (values.reduce (now (table .entry)) (now (quantity .entry))) r (now (out .exit)) ⌝ }
 {
-    let r = requests::reduce(table, quantity, out);
+    let r = askvalues::reduce(table, quantity, out);
     r.refusal
 }
 
 #[no_mangle]
 pub extern "C" fn demsharin_negate(table: &[u8], quantity: &[u8], out: &mut [u8]) -> u32
-    ensures { λ r. ⌜ Exported (now (out .entry)) (spec.negate (now (table .entry)) (now (quantity .entry))) r (now (out .exit)) ⌝ }
+    ensures { λ r. ⌜ Exported (now (out .entry)) (values.negate (now (table .entry)) (now (quantity .entry))) r (now (out .exit)) ⌝ }
 {
-    let r = requests::negate(table, quantity, out);
+    let r = askvalues::negate(table, quantity, out);
     r.refusal
 }
 
 #[no_mangle]
 pub extern "C" fn demsharin_abs(table: &[u8], quantity: &[u8], out: &mut [u8]) -> u32
-    ensures { λ r. ⌜ Exported (now (out .entry)) (spec.magnitude (now (table .entry)) (now (quantity .entry))) r (now (out .exit)) ⌝ }
+    ensures { λ r. ⌜ Exported (now (out .entry)) (values.magnitude (now (table .entry)) (now (quantity .entry))) r (now (out .exit)) ⌝ }
 {
-    let r = requests::abs(table, quantity, out);
+    let r = askvalues::abs(table, quantity, out);
     r.refusal
 }
 
 #[no_mangle]
 pub extern "C" fn demsharin_no_simplify(table: &[u8], quantity: &[u8], out: &mut [u8]) -> u32
-    ensures { λ r. ⌜ Exported (now (out .entry)) (spec.noSimplify (now (table .entry)) (now (quantity .entry))) r (now (out .exit)) ⌝ }
+    ensures { λ r. ⌜ Exported (now (out .entry)) (values.noSimplify (now (table .entry)) (now (quantity .entry))) r (now (out .exit)) ⌝ }
 {
-    let r = requests::no_simplify(table, quantity, out);
+    let r = askvalues::no_simplify(table, quantity, out);
     r.refusal
 }
 
@@ -123,9 +125,9 @@ pub extern "C" fn demsharin_multiply(
     other: &[u8],
     out: &mut [u8],
 ) -> u32
-    ensures { λ r. ⌜ Exported (now (out .entry)) (spec.multiply (now (table .entry)) (now (quantity .entry)) (now (other .entry))) r (now (out .exit)) ⌝ }
+    ensures { λ r. ⌜ Exported (now (out .entry)) (values.multiply (now (table .entry)) (now (quantity .entry)) (now (other .entry))) r (now (out .exit)) ⌝ }
 {
-    let r = requests::multiply(table, quantity, other, out);
+    let r = askvalues::multiply(table, quantity, other, out);
     r.refusal
 }
 
@@ -136,9 +138,9 @@ pub extern "C" fn demsharin_checked_div(
     other: &[u8],
     out: &mut [u8],
 ) -> u32
-    ensures { λ r. ⌜ Exported (now (out .entry)) (spec.checkedDiv (now (table .entry)) (now (quantity .entry)) (now (other .entry))) r (now (out .exit)) ⌝ }
+    ensures { λ r. ⌜ Exported (now (out .entry)) (values.checkedDiv (now (table .entry)) (now (quantity .entry)) (now (other .entry))) r (now (out .exit)) ⌝ }
 {
-    let r = requests::checked_div(table, quantity, other, out);
+    let r = askvalues::checked_div(table, quantity, other, out);
     r.refusal
 }
 
@@ -149,9 +151,9 @@ pub extern "C" fn demsharin_checked_power(
     other: &[u8],
     out: &mut [u8],
 ) -> u32
-    ensures { λ r. ⌜ Exported (now (out .entry)) (spec.checkedPower (now (table .entry)) (now (quantity .entry)) (now (other .entry))) r (now (out .exit)) ⌝ }
+    ensures { λ r. ⌜ Exported (now (out .entry)) (values.checkedPower (now (table .entry)) (now (quantity .entry)) (now (other .entry))) r (now (out .exit)) ⌝ }
 {
-    let r = requests::checked_power(table, quantity, other, out);
+    let r = askvalues::checked_power(table, quantity, other, out);
     r.refusal
 }
 
@@ -162,17 +164,17 @@ pub extern "C" fn demsharin_convert_to(
     target: &[u8],
     out: &mut [u8],
 ) -> u32
-    ensures { λ r. ⌜ Exported (now (out .entry)) (spec.convertTo (now (table .entry)) (now (quantity .entry)) (now (target .entry))) r (now (out .exit)) ⌝ }
+    ensures { λ r. ⌜ Exported (now (out .entry)) (values.convertTo (now (table .entry)) (now (quantity .entry)) (now (target .entry))) r (now (out .exit)) ⌝ }
 {
-    let r = requests::convert_to(table, quantity, target, out);
+    let r = askvalues::convert_to(table, quantity, target, out);
     r.refusal
 }
 
 #[no_mangle]
 pub extern "C" fn demsharin_add(table: &[u8], quantity: &[u8], other: &[u8], out: &mut [u8]) -> u32
-    ensures { λ r. ⌜ Exported (now (out .entry)) (spec.add (now (table .entry)) (now (quantity .entry)) (now (other .entry))) r (now (out .exit)) ⌝ }
+    ensures { λ r. ⌜ Exported (now (out .entry)) (values.add (now (table .entry)) (now (quantity .entry)) (now (other .entry))) r (now (out .exit)) ⌝ }
 {
-    let r = requests::add(table, quantity, other, out);
+    let r = askvalues::add(table, quantity, other, out);
     r.refusal
 }
 
@@ -183,9 +185,9 @@ pub extern "C" fn demsharin_subtract(
     other: &[u8],
     out: &mut [u8],
 ) -> u32
-    ensures { λ r. ⌜ Exported (now (out .entry)) (spec.subtract (now (table .entry)) (now (quantity .entry)) (now (other .entry))) r (now (out .exit)) ⌝ }
+    ensures { λ r. ⌜ Exported (now (out .entry)) (values.subtract (now (table .entry)) (now (quantity .entry)) (now (other .entry))) r (now (out .exit)) ⌝ }
 {
-    let r = requests::subtract(table, quantity, other, out);
+    let r = askvalues::subtract(table, quantity, other, out);
     r.refusal
 }
 
@@ -196,9 +198,9 @@ pub extern "C" fn demsharin_equal(
     other: &[u8],
     out: &mut [u8],
 ) -> u32
-    ensures { λ r. ⌜ Exported (now (out .entry)) (spec.equal (now (table .entry)) (now (quantity .entry)) (now (other .entry))) r (now (out .exit)) ⌝ }
+    ensures { λ r. ⌜ Exported (now (out .entry)) (values.equal (now (table .entry)) (now (quantity .entry)) (now (other .entry))) r (now (out .exit)) ⌝ }
 {
-    let r = requests::equal(table, quantity, other, out);
+    let r = askvalues::equal(table, quantity, other, out);
     r.refusal
 }
 
@@ -209,17 +211,17 @@ pub extern "C" fn demsharin_compare(
     other: &[u8],
     out: &mut [u8],
 ) -> u32
-    ensures { λ r. ⌜ Exported (now (out .entry)) (spec.compare (now (table .entry)) (now (quantity .entry)) (now (other .entry))) r (now (out .exit)) ⌝ }
+    ensures { λ r. ⌜ Exported (now (out .entry)) (values.compare (now (table .entry)) (now (quantity .entry)) (now (other .entry))) r (now (out .exit)) ⌝ }
 {
-    let r = requests::compare(table, quantity, other, out);
+    let r = askvalues::compare(table, quantity, other, out);
     r.refusal
 }
 
 #[no_mangle]
 pub extern "C" fn demsharin_full_simplify(table: &[u8], quantity: &[u8], out: &mut [u8]) -> u32
-    ensures { λ r. ⌜ Exported (now (out .entry)) (spec.fullSimplify (now (table .entry)) (now (quantity .entry))) r (now (out .exit)) ⌝ }
+    ensures { λ r. ⌜ Exported (now (out .entry)) (simplify.fullSimplify (now (table .entry)) (now (quantity .entry))) r (now (out .exit)) ⌝ }
 {
-    let r = requests::full_simplify(table, quantity, out);
+    let r = asksimplify::full_simplify(table, quantity, out);
     r.refusal
 }
 
@@ -230,8 +232,8 @@ pub extern "C" fn demsharin_full_simplify_with(
     candidates: &[u8],
     out: &mut [u8],
 ) -> u32
-    ensures { λ r. ⌜ Exported (now (out .entry)) (spec.fullSimplifyWith (now (table .entry)) (now (quantity .entry)) (now (candidates .entry))) r (now (out .exit)) ⌝ }
+    ensures { λ r. ⌜ Exported (now (out .entry)) (simplify.fullSimplifyWith (now (table .entry)) (now (quantity .entry)) (now (candidates .entry))) r (now (out .exit)) ⌝ }
 {
-    let r = requests::full_simplify_with(table, quantity, candidates, out);
+    let r = asksimplify::full_simplify_with(table, quantity, candidates, out);
     r.refusal
 }

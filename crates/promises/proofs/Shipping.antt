@@ -26,7 +26,8 @@ use Rattle.values.specs.declared.answers.Answer.{Answer}
 use Rattle.quantities.specs.Calls.{convertTo}
 use Rattle.simplification.specs.Calls.{fullSimplify}
 use Rattle.wire.specs.Arguments.{tableFrom, quantityFrom, listFrom}
-use Rattle.requests.specs.Calls as requests
+use Rattle.askvalues.specs.Calls as askvalues
+use Rattle.asksimplify.specs.Calls as asksimplify
 use Rattle.demsharin.specs.Exports.{Exported}
 use Rattle.promises.specs.Shipped.{outcomeIn, outcomeFrom}
 use Rattle.promises.proofs.Demands as demand
@@ -67,16 +68,16 @@ module _ (tb qb mb : List ℕ) where
   module _ (room : List ℕ) (long : 336 ≤ length room) (n : ℕ) (end : List ℕ) where
     module _ (ks : List Facts) (k : table t ≡ given ks) (fs gs : List Factor) (h : both (length ks) (q .unit) m ≡ given (fs, gs))
         (nonzero : isZero (q .value) ≡ false) (unequal : sameLists t (q .unit) m ≡ given false) {cl cm l : List Factor} {x y : List Exponent} (s : InRange t ks k q m fs gs h cl cm l x y)
-        (contract : Exported room (requests.convertTo tb qb mb) n end) where
+        (contract : Exported room (askvalues.convertTo tb qb mb) n end) where
       pub exported-converts : Converts t ks k q m fs gs h nonzero unequal s (outcomeFrom n end)
-      unfolding requests.convertTo
+      unfolding askvalues.convertTo
       exported-converts =
           over-bytes (Converts t ks k q m fs gs h nonzero unequal s) (convertTo t q m) (converts t ks k q m fs gs h nonzero unequal s) (convert-fits t q (read-fits qb) m) room long n end contract
 
     -- ---- `full_simplify` of a nonzero value, if it answers, keeps base exponents
-    module _ (ks : List Facts) (k : table t ≡ given ks) (fs : List Factor) (h : checked (length ks) (q .unit) ≡ given fs) (nonzero : isZero (q .value) ≡ false) (contract : Exported room (requests.fullSimplify tb qb) n end) where
+    module _ (ks : List Facts) (k : table t ≡ given ks) (fs : List Factor) (h : checked (length ks) (q .unit) ≡ given fs) (nonzero : isZero (q .value) ≡ false) (contract : Exported room (asksimplify.fullSimplify tb qb) n end) where
       pub exported-simplifies : Holds (λ p. SameBase t ks k fs (listOf (p .unit))) (outcomeFrom n end)
-      unfolding requests.fullSimplify
+      unfolding asksimplify.fullSimplify
       exported-simplifies =
           over-bytes (Holds (λ p. SameBase t ks k fs (listOf (p .unit)))) (fullSimplify t q) (demand.simplify-keeps t ks k q fs h nonzero) (simplify-fits t q (read-fits qb)) room long n end contract
 

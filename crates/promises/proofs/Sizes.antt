@@ -1,7 +1,7 @@
 -- No answer is longer than a quantity, so that room for one is room for every answer: the stream's own room refuses none.
 use mathlib.Core.Path.{_≡_, refl, sym, _∙_}
 use mathlib.Core.Logic.{_↔_}
-use mathlib.Core.List.{List, [], _∷_}
+use mathlib.Core.List.{List, [], _∷_, _++_}
 use Prim.Native.Nat.{ℕ, _≤_}
 use native.Mathlib.Omega.{arith}
 use borrow.Author.Tests.{le-ltb}
@@ -26,8 +26,14 @@ use Rattle.wire.proofs.Stored.{length-exponentBytes}
 use Rattle.wire.proofs.Round.{ListFits, QuantityFits, list-form, quantity-form}
 use Rattle.replies.specs.Replies.{sent, orderNumber, unitBytes, valueBytes, reducedBytes, verdictBytes, orderBytes, multipleBytes}
 use Rattle.replies.proofs.Parts.{value-sized}
-use Rattle.requests.specs.Calls as requests
-use Rattle.stream.specs.Calls.{Call, calls, look, callOf}
+use Rattle.asklists.specs.Calls as asklists
+use Rattle.askvalues.specs.Calls as askvalues
+use Rattle.asksimplify.specs.Calls as asksimplify
+use Rattle.codes.specs.Codes.{Call, look}
+use Rattle.codelists.specs.Calls as codelists
+use Rattle.codevalues.specs.Calls as codevalues
+use Rattle.codesimplify.specs.Calls as codesimplify
+use Rattle.stream.specs.Calls.{calls, callOf}
 use Rattle.stream.specs.Stream.{lent, answerTo, answered}
 use Rattle.promises.proofs.Rounded.{ValueFits}
 use Rattle.promises.proofs.Fitting as fitting
@@ -73,9 +79,9 @@ data Each : List Call → Type 0 where
   done : Each []
   _and_ : {c : Call} {l : List Call} → Brief c → Each l → Each (c ∷ l)
 
-calls-brief : Each calls
-unfolding calls requests.prefixFactor requests.product requests.quotient requests.listPower requests.canonical requests.sameList requests.reduceList requests.reduce requests.convertTo requests.add requests.subtract requests.multiply requests.checkedDiv requests.checkedPower requests.negate requests.magnitude requests.equal requests.compare requests.smallerUnit requests.isMultipleOf requests.fullSimplify requests.fullSimplifyWith requests.noSimplify verdictBytes orderBytes
-calls-brief =
+lists-brief : Each codelists.calls
+unfolding codelists.calls asklists.prefixFactor asklists.product asklists.quotient asklists.listPower asklists.canonical asklists.sameList asklists.reduceList asklists.smallerUnit asklists.isMultipleOf verdictBytes
+lists-brief =
     (λ p _ _. sized valueBytes 8 (omega arith) value-sized (prefixFactor (prefixFrom p)))
     and (λ t a b. unit-short (fitting.product-fits (tableFrom t) (listFrom a) (listFrom b)))
     and (λ t a b. unit-short (fitting.quotient-fits (tableFrom t) (listFrom a) (listFrom b)))
@@ -83,7 +89,14 @@ calls-brief =
     and (λ t a _. unit-short (fitting.canonical-fits (tableFrom t) (listFrom a)))
     and (λ t a b. number-short flag (lists.sameLists (tableFrom t) (listFrom a) (listFrom b)))
     and (λ t a _. reduced-short (fitting.reduction-fits (tableFrom t) (listFrom a)))
-    and (λ t a _. quantity-short (fitting.reduce-fits (tableFrom t) (quantityFrom a)))
+    and (λ t a b. unit-short (fitting.smaller-fits (tableFrom t) (listFrom a) (listFrom b)))
+    and (λ t a b. sized multipleBytes 12 (omega arith) multiple-sized (lists.multiple (tableFrom t) (listFrom a) (listFrom b)))
+    and done
+
+values-brief : Each codevalues.calls
+unfolding codevalues.calls askvalues.reduce askvalues.convertTo askvalues.add askvalues.subtract askvalues.multiply askvalues.checkedDiv askvalues.checkedPower askvalues.negate askvalues.magnitude askvalues.equal askvalues.compare askvalues.noSimplify verdictBytes orderBytes
+values-brief =
+    (λ t a _. quantity-short (fitting.reduce-fits (tableFrom t) (quantityFrom a)))
     and (λ t a b. quantity-short (fitting.convert-fits (tableFrom t) (quantityFrom a) (read-fits a) (listFrom b)))
     and (λ t a b. quantity-short (fitting.add-fits (tableFrom t) (quantityFrom a) (quantityFrom b) (read-fits a) (read-fits b)))
     and (λ t a b. quantity-short (fitting.subtract-fits (tableFrom t) (quantityFrom a) (quantityFrom b) (read-fits a) (read-fits b)))
@@ -94,12 +107,23 @@ calls-brief =
     and (λ t a _. quantity-short (fitting.magnitude-fits (tableFrom t) (quantityFrom a) (read-fits a)))
     and (λ t a b. number-short flag (quantities.equal (tableFrom t) (quantityFrom a) (quantityFrom b)))
     and (λ t a b. number-short orderNumber (quantities.compare (tableFrom t) (quantityFrom a) (quantityFrom b)))
-    and (λ t a b. unit-short (fitting.smaller-fits (tableFrom t) (listFrom a) (listFrom b)))
-    and (λ t a b. sized multipleBytes 12 (omega arith) multiple-sized (lists.multiple (tableFrom t) (listFrom a) (listFrom b)))
-    and (λ t a _. quantity-short (fitting.simplify-fits (tableFrom t) (quantityFrom a) (read-fits a)))
-    and (λ t a b. quantity-short (fitting.with-fits (tableFrom t) (quantityFrom a) (read-fits a) (candidatesFrom b)))
     and (λ t a _. quantity-short (fitting.unmarked-fits (tableFrom t) (quantityFrom a) (read-fits a)))
     and done
+
+simplify-brief : Each codesimplify.calls
+unfolding codesimplify.calls asksimplify.fullSimplify asksimplify.fullSimplifyWith
+simplify-brief =
+    (λ t a _. quantity-short (fitting.simplify-fits (tableFrom t) (quantityFrom a) (read-fits a)))
+    and (λ t a b. quantity-short (fitting.with-fits (tableFrom t) (quantityFrom a) (read-fits a) (candidatesFrom b)))
+    and done
+
+both-brief : {l m : List Call} → Each l → Each m → Each (l ++ m)
+both-brief done e = e
+both-brief (b and d) e = b and both-brief d e
+
+calls-brief : Each calls
+unfolding calls
+calls-brief = both-brief lists-brief (both-brief values-brief simplify-brief)
 
 look-brief : {l : List Call} (n : ℕ) → Each l → Brief (look l n)
 unfolding look

@@ -4,8 +4,8 @@ use mathlib.Core.List.{List, [], _++_}
 use Prim.Native.Nat.{ℕ, zero, suc, _+_, _-_, _≤_, _<_}
 use lib.Dec.{eqb, ltb}
 use lib.ListN.{length, take, drop, replicate}
-use Rattle.exponents.specs.Words.{pick}
 use Rattle.exponents.specs.Outcome.{Outcome, given, refused, number}
+use Rattle.exponents.specs.Words.{pick}
 use Rattle.wire.specs.Bytes.{le, bytesOf}
 use Rattle.replies.specs.Replies.{sent}
 use Rattle.stream.specs.Calls.{callOf}

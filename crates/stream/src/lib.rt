@@ -7,7 +7,6 @@ ghost use lib.ListN.{length, take, drop};
 ghost use Rattle.replies.specs.Held.{Replied};
 ghost use Rattle.stream.specs.Calls.{callOf};
 ghost use Rattle.stream.specs.Stream as spec;
-use exponents::refusals::SHAPE;
 use replies::Reply;
 use wire::numbers::read_u32;
 use wire::numbers::write_u32;
@@ -41,38 +40,19 @@ pub struct Fed {
 
 // ---- one request
 
-// By code, how many arguments a call has: 0 for no call's.
-const ARITIES: [u32; 24] = [
-    0,
-    1,
-    3,
-    3,
-    3,
-    2,
-    3,
-    2,
-    2,
-    3,
-    3,
-    3,
-    3,
-    3,
-    3,
-    2,
-    2,
-    3,
-    3,
-    3,
-    3,
-    2,
-    3,
-    2,
-];
-
+// How many arguments the call with this code has: 0 for no call's.
 fn arity(code: u32) -> u32
     ensures { λ r. ⌜ (r ≡ callOf code .arity) × (r ≤ 3) ⌝ }
 {
-    if code < 24 { ARITIES[code as usize] } else { 0 }
+    let l = codelists::arity(code);
+    if l != 0 {
+        return l;
+    }
+    let v = codevalues::arity(code);
+    if v != 0 {
+        return v;
+    }
+    codesimplify::arity(code)
 }
 
 fn cut(kind: u32) -> Frame
@@ -139,32 +119,13 @@ fn part_at(args: &[u8], k: u32) -> Part
 fn call(code: u32, a: &[u8], b: &[u8], c: &[u8], out: &mut [u8]) -> Reply
     ensures { λ r. ⌜ Replied (now (out .entry)) (callOf code .answer (now (a .entry)) (now (b .entry)) (now (c .entry))) r (now (out .exit)) ⌝ }
 {
-    match code {
-        1 => requests::prefix_factor(a, out),
-        2 => requests::product(a, b, c, out),
-        3 => requests::quotient(a, b, c, out),
-        4 => requests::list_power(a, b, c, out),
-        5 => requests::canonical(a, b, out),
-        6 => requests::same_list(a, b, c, out),
-        7 => requests::reduce_list(a, b, out),
-        8 => requests::reduce(a, b, out),
-        9 => requests::convert_to(a, b, c, out),
-        10 => requests::add(a, b, c, out),
-        11 => requests::subtract(a, b, c, out),
-        12 => requests::multiply(a, b, c, out),
-        13 => requests::checked_div(a, b, c, out),
-        14 => requests::checked_power(a, b, c, out),
-        15 => requests::negate(a, b, out),
-        16 => requests::abs(a, b, out),
-        17 => requests::equal(a, b, c, out),
-        18 => requests::compare(a, b, c, out),
-        19 => requests::smaller_unit(a, b, c, out),
-        20 => requests::is_multiple_of(a, b, c, out),
-        21 => requests::full_simplify(a, b, out),
-        22 => requests::full_simplify_with(a, b, c, out),
-        23 => requests::no_simplify(a, b, out),
-        _ => replies::refused(SHAPE),
+    if codelists::arity(code) != 0 {
+        return codelists::call(code, a, b, c, out);
     }
+    if codevalues::arity(code) != 0 {
+        return codevalues::call(code, a, b, c, out);
+    }
+    codesimplify::call(code, a, b, c, out)
 }
 
 // Answers the request with this code and these bytes behind it.

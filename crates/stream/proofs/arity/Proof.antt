@@ -1,23 +1,34 @@
--- `arity` meets its contract: the constant is what the calls' own lines say, by computation.
+-- `arity` meets its contract: a kind that has no call of this code leaves it to the next.
 use borrow.Author.Needs.{needs}
-use mathlib.Core.Path.{sym}
-use Rattle.stream.specs.Calls.{callOf, look, calls}
-use Rattle.stream.proofs.Codes.{arities, arity-at, arity-above}
+use Rattle.stream.proofs.Codes.{of-lists, of-values, of-simplify}
 use Rattle.stream.proofs.arity.Statement.{statement}
 use Rattle.stream.proofs.arity.Tie as tie
 
-mul-result : tie.Need-mul-result
-mul-result c = search needs
-
-array-read-result : tie.Need-array-read-result
-array-read-result c = search needs
+arity-requires : tie.Need-arity-requires
+arity-requires c κs = search needs
 
 returns : tie.Need-returns
-unfolding arities callOf look calls
-returns c = arity-at 24 (c .before .args .code) (search needs)
+returns c =
+    let l = c .before .arity .ensures in
+    (rw (of-lists _ _ (l .0) (c .if1 .taken)) (l .0), l .1)
+
+arity-requires-2 : tie.Need-arity-requires-2
+arity-requires-2 c κs = search needs
 
 returns-2 : tie.Need-returns-2
-returns-2 c = (sym (arity-above (c .before .args .code) (search needs)), search needs)
+returns-2 c =
+    let v = c .before .arity2 .ensures in
+    (rw (of-values _ _ (c .before .before .before .arity .ensures .0) (c .before .before .if1 .left) _ (v .0) (c .if2 .taken)) (v .0), v .1)
+
+arity-requires-3 : tie.Need-arity-requires-3
+arity-requires-3 c κs = search needs
+
+returns-3 : tie.Need-returns-3
+returns-3 c =
+    let s = c .arity3 .ensures in
+    (rw (of-simplify _ _ (c .before .before .before .before .arity .ensures .0) (c .before .before .before .if1 .left) _ (c .before .before .arity2 .ensures .0) (c .before .if2 .left)) (s .0), s .1)
 
 pub arity-spec : {M : Type 1} → statement M
-arity-spec = tie.close (tie.spec mul-result array-read-result returns returns-2)
+arity-spec =
+    tie.close
+    (tie.spec arity-requires returns arity-requires-2 returns-2 arity-requires-3 returns-3)
