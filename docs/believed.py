@@ -14,7 +14,7 @@ import sys
 from pathlib import Path
 
 HOME = Path(__file__).resolve().parent.parent
-CALLS = ['demsharin']
+CALLS = ['lentcalls', 'demsharin']
 BYTES = ['wire', 'replies', 'stream', 'inflow']
 THEOREMS = 'promises'
 
