@@ -18,7 +18,7 @@ use Rattle.canonical.specs.Held.{formOf}
 use Rattle.canonical.specs.Equality.{equal, verdictOf}
 use Rattle.canonical.specs.declared.form.Form.{Form}
 use Rattle.canonical.specs.declared.equality.Verdict.the-variants.{Yes, No, Refused}
-use Rattle.canonical.proofs.Keeping.{unless-short, canon-kept}
+use Rattle.canonical.proofs.Keeping.{drop-short, canon-kept}
 use Rattle.canonical.proofs.Agree.{canon-atoms}
 
 -- ---- a canonical form is no longer than its list
@@ -28,7 +28,7 @@ Within n m = length m ≤ n
 pub nonzero-short : (l : List Factor) → length (nonzero l) ≤ length l
 unfolding nonzero
 nonzero-short [] = omega arith
-nonzero-short (f ∷ l) = unless-short _ f (nonzero l) (length l) (nonzero-short l)
+nonzero-short (f ∷ l) = drop-short _ f (nonzero l) (length l) (nonzero-short l)
 
 module _ (cmp : Atom → Atom → Ordering) where
   place-short : (o : Ordering) (x y : Factor) (ys : List Factor) (r : Outcome (List Factor)) → Holds (Within (suc (length ys))) r → Holds (Within (suc (suc (length ys)))) (place o x y ys r)

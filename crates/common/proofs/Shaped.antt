@@ -18,7 +18,7 @@ use Rattle.units.proofs.Sound.{exponent-sound}
 use Rattle.exponents.specs.Words.{All}
 use Rattle.tables.specs.Order.{Atom, atom, of}
 use Rattle.exponents.proofs.Words.{pick-is}
-use Rattle.canonical.proofs.Keeping.{each-faultless, none-faulty, Kept, kept-with, unless-keeps, unless-short}
+use Rattle.canonical.proofs.Keeping.{each-faultless, none-faulty, Kept, kept-with, drop-keeps, drop-short}
 use Rattle.common.specs.declared.Shared.{Shared}
 use Rattle.common.specs.declared.Shared.the-variants.{Takes, Nothing}
 use Rattle.common.specs.Common.{meet, ifSame, withShared, sharedWith, common}
@@ -103,7 +103,7 @@ module _ (cmp : Atom → Atom → Ordering) where
     lessen-keeps (g ∷ m) [] h = held {a = g ∷ m} h
     lessen-keeps (g ∷ m) (c ∷ cs) h =
         taken-holds (All P) _ g c _ _
-        (λ e s. holds-map _ (lessen-keeps m cs (h .1)) λ r k. unless-keeps P (same e nought) (of (atom g) e) r (any g e (h .0) s) k)
+        (λ e s. holds-map _ (lessen-keeps m cs (h .1)) λ r k. drop-keeps P (same e nought) (of (atom g) e) r (any g e (h .0) s) k)
         (holds-imp (lessen-keeps m (c ∷ cs) (h .1)) λ r k. (h .0, k))
 
   pub lessen-kept : (l cs : List Factor) → some factorFault l ≡ false → Holds (λ r. some factorFault r ≡ false) (lessen cmp l cs)
@@ -115,5 +115,5 @@ module _ (cmp : Atom → Atom → Ordering) where
   lessen-short (g ∷ m) [] = held {a = g ∷ m} (omega arith)
   lessen-short (g ∷ m) (c ∷ cs) =
       taken-holds (λ r. length r ≤ suc (length m)) _ g c _ _
-      (λ e s. holds-map _ (lessen-short m cs) λ r k. unless-short (same e nought) (of (atom g) e) r (length m) k)
+      (λ e s. holds-map _ (lessen-short m cs) λ r k. drop-short (same e nought) (of (atom g) e) r (length m) k)
       (holds-imp (lessen-short m (c ∷ cs)) λ r k. omega arith)

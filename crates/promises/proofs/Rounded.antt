@@ -4,16 +4,12 @@ use mathlib.Core.List.{List, [], _∷_}
 use lib.Dec.{T}
 use lib.Ieee.{Float, binary64, fits, mul}
 use lib.Ieee.Fits.{add-fits, sub-fits, mul-fits, div-fits}
-use Rattle.exponents.specs.Outcome.{Outcome, SHAPE}
-use Rattle.exponents.proofs.Holds.{holds-all, Holds, moot, held, holds-any, holds-unless, holds-bind}
+use Rattle.exponents.specs.Outcome.{Outcome}
+use Rattle.exponents.proofs.Holds.{holds-all, Holds, moot, held, holds-any, holds-bind}
 use Rattle.floats.specs.Power.{one}
-use Rattle.floats.proofs.Laws.{power-fits}
 use Rattle.floats.proofs.Patterns.{bits-fit}
 use Rattle.units.specs.declared.Factor.{Factor}
-use Rattle.units.specs.declared.Prefix.{Prefix}
-use Rattle.units.specs.declared.Prefix.the-variants.{Metric, Binary}
 use Rattle.units.specs.declared.Rows.{Rows}
-use Rattle.units.specs.Prefixes.{prefixFactor}
 use Rattle.tables.specs.Scale.{scaleFrom, doubles}
 use Rattle.tables.specs.Rows.{Facts}
 use Rattle.tables.specs.Rules.{Rules, rulesIn, scaleBy}
@@ -34,11 +30,6 @@ scale-from : (size : Factor → Float) (s : Float) (l : List Factor) → ValueFi
 unfolding scaleFrom
 scale-from size s [] h = held h
 scale-from size s (f ∷ l) h = holds-bind _ (holds-any _) λ p _. scale-from size (mul binary64 s p) l (mul-fits binary64 s p)
-
-pub prefix-value : (p : Prefix) → Holds ValueFits (prefixFactor p)
-unfolding prefixFactor
-prefix-value (Metric n) = holds-unless _ SHAPE λ _. held (power-fits _ n)
-prefix-value (Binary n) = holds-unless _ SHAPE λ _. held (power-fits _ n)
 
 -- ---- the steps of a conversion
 

@@ -23,7 +23,7 @@ use Rattle.tables.proofs.Slotting.{slots-few}
 use Rattle.tables.proofs.Sound.{Sound, baseAt-sound}
 use Rattle.tables.proofs.Terms.{nilRow}
 use Rattle.canonical.specs.Canonical.{nonzero}
-use Rattle.canonical.proofs.Keeping.{unless-keeps}
+use Rattle.canonical.proofs.Keeping.{drop-keeps}
 use Rattle.reduction.specs.Reduction.{baseFactor, baseFactors, reduced}
 use Rattle.reduction.proofs.Reducing.{reduced-short}
 use Rattle.simplification.proofs.Sounding.{Passes, passed-checked}
@@ -46,7 +46,7 @@ module _ (S : Slot → Type 0) (E : Exponent → Type 0) (P : Factor → Type 0)
   unfolding reduced baseFactors nonzero
   reduced-all [] es h k = tt
   reduced-all (s ∷ ss) [] h k = tt
-  reduced-all (s ∷ ss) (e ∷ es) h k = unless-keeps P (same e nought) (baseFactor s e) (reduced ss es) (made s e (h .0) (k .0)) (reduced-all ss es (h .1) (k .1))
+  reduced-all (s ∷ ss) (e ∷ es) h k = drop-keeps P (same e nought) (baseFactor s e) (reduced ss es) (made s e (h .0) (k .0)) (reduced-all ss es (h .1) (k .1))
 
 -- a base factor passes
 factor-passes : (rows : ℕ) (s : Slot) (e : Exponent) → s .row < rows → Sound e → Passes rows (baseFactor s e)
