@@ -6,7 +6,7 @@ usage: docs/believed.py             lines by file, reached and all, and the sums
        docs/believed.py --why NAME  by which definition NAME is reached first
 
 Reached are the names in the contracts of the shipped calls (CALLS), in those of the byte form and the stream (BYTES) and in the theorems
-of `promises`, and, from each, the names in its own text. Lines are those of definitions: no imports, comments or blank lines.
+of `promises` and `filepromises`, and, from each, the names in its own text. Lines are those of definitions: no imports, comments or blank lines.
 A file specs/Held.antt says how code holds things, every other file of specs is a rule file.
 """
 import re
@@ -14,9 +14,9 @@ import sys
 from pathlib import Path
 
 HOME = Path(__file__).resolve().parent.parent
-CALLS = ['lentcalls', 'demsharin']
+CALLS = ['lentcalls', 'lentfiles', 'demsharin']
 BYTES = ['wire', 'replies', 'stream', 'inflow']
-THEOREMS = 'promises'
+THEOREMS = ['promises', 'filepromises']
 
 USE = re.compile(r'^\s*(?:ghost )?use\s+Rattle·(\w+)(?:·specs)?\.specs\.([A-Z]\w*)(?:\.\{(.*)\})?(?:\s+as\s+([^\s;]+))?;?\s*$')
 
@@ -111,12 +111,12 @@ def main():
                 text = path.read_text()
                 for fn in re.finditer(r'fn (\w+)\(.*?\n\{', text, re.S):
                     reach(fn.group(0).partition('ensures')[2], *imports(text), f'{crate}::{fn.group(1)}', mark)
-    for path in sorted(HOME.glob(f'crates/{THEOREMS}/proofs/*.antt')):
-        text = path.read_text()
+    for path in [p for crate in THEOREMS for p in sorted(HOME.glob(f'crates/{crate}/proofs/*.antt'))]:
+        text, crate = path.read_text(), path.parts[-3]
         for case in re.finditer(r'^ *(?:abbrev (?:pub )?\S+ :|\S+ : List Case)(?:.|\n)*?(?=\n\n|\Z)', text, re.M):
-            reach(case.group(0), *imports(text), f'{THEOREMS}/{path.stem}', 'theorems')
+            reach(case.group(0), *imports(text), f'{crate}/{path.stem}', 'theorems')
         for law in re.finditer(r'^( *)pub (?!mod)(\S+) :((?:.|\n)*?)\n *(?:unfolding\b|\2(?=\s)|$)', text, re.M):
-            reach(law.group(3), *imports(text), f'{THEOREMS}/{path.stem}.{law.group(2)}', 'theorems')
+            reach(law.group(3), *imports(text), f'{crate}/{path.stem}.{law.group(2)}', 'theorems')
 
     if '--why' in sys.argv:
         for key, (mark, by) in reached.items():

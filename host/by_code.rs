@@ -1,6 +1,10 @@
 // The archive's functions by the codes of the byte form, for programs that take requests.
-use demsharin::bytes::{LIST_BYTES, MULTIPLE_BYTES, NUMBER_BYTES, QUANTITY_BYTES, REDUCED_BYTES, VALUE_BYTES};
+use demsharin::bytes::{
+    FILE_BYTES, HEAD_BYTES, LIST_BYTES, MULTIPLE_BYTES, NUMBER_BYTES, QUANTITY_BYTES, REDUCED_BYTES, ROW_BYTES,
+    VALUE_BYTES,
+};
 use demsharin::exports;
+use wire::bytes::lent;
 use wire::calls::{self, Kind};
 use wire::stream::Request;
 
@@ -31,13 +35,21 @@ pub fn call(request: &Request, out: &mut [u8]) -> u32 {
         (21, [table, a]) => exports::full_simplify(table, a, out),
         (22, [table, a, b]) => exports::full_simplify_with(table, a, b, out),
         (23, [table, a]) => exports::no_simplify(table, a, out),
+        (24, [table, _]) => exports::write_table(table, out),
+        (25, [file, _]) => exports::read_table(file, out),
+        (26, [file, _]) => exports::salvage_table(file, out),
         (code, arguments) => panic!("no call {code} with {} arguments", arguments.len()),
     }
 }
 
-/// The bytes of the call's answer.
-pub fn answer_bytes(code: u32) -> usize {
-    match calls::of_code(code).expect("a known code").answer {
+/// The bytes that hold the answer to a request. What a call on files is lent stands in the request; at most the longest
+/// file, or a row for each byte of a file, is lent, since more changes nothing.
+pub fn answer_bytes(request: &Request) -> usize {
+    match calls::of_code(request.code).expect("a known code").answer {
+        Kind::Written => HEAD_BYTES + (lent(&request.arguments[1]) as usize).min(FILE_BYTES),
+        Kind::Read | Kind::Salvaged => {
+            HEAD_BYTES + ROW_BYTES * (lent(&request.arguments[1]) as usize).min(request.arguments[0].len())
+        }
         Kind::Value => VALUE_BYTES,
         Kind::YesNo | Kind::Order => NUMBER_BYTES,
         Kind::List => LIST_BYTES,

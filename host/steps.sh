@@ -59,8 +59,11 @@ unit() {
 }
 
 example() {
-    rustc_x86 --crate-name knots --edition 2024 -O -D warnings "${wrapper[@]}" -o "$build/knots" "$here/examples/knots.rs"
-    run_x86 "$build/knots"
+    local name
+    for name in knots exchange; do
+        rustc_x86 --crate-name $name --edition 2024 -O -D warnings "${wrapper[@]}" -o "$build/$name" "$here/examples/$name.rs"
+        run_x86 "$build/$name"
+    done
 }
 
 # The C program; then, as C++, that the archive has all of the header's functions.
@@ -81,22 +84,20 @@ c() {
     run_x86 "$build/header"
 }
 
-# differential [--requests N] [SEED ..]: N requests for each seed, as many seeds at once as there are processors
-differential() {
-    local size=130000 seed failed=0 running=() files=() counts
-    [ "${1:-}" != --requests ] || { size=$2 && shift 2; }
+# seeds NAME SIZE SEED ..: a program over so much of each seed, as many at once as there are processors; then its table
+seeds() {
+    local name=$1 size=$2 seed failed=0 running=() files=() counts
+    shift 2
     [ $# -gt 0 ] || set -- 1 2 3 4 5 6 7 8
-    oracle_crates on
-    program differential wire scope published generator
     counts=$(mktemp -d "$build/counts.XXXXXX")
     for seed in "$@"; do
         [ ${#running[@]} -lt "${HOST_JOBS:-$(nproc)}" ] || finish_one
-        run_x86 "$build/differential" "$seed" "$size" "$counts/$seed" >"$counts/$seed.log" 2>&1 &
+        run_x86 "$build/$name" "$seed" "$size" "$counts/$seed" >"$counts/$seed.log" 2>&1 &
         running+=("$! $counts/$seed")
         files+=("$counts/$seed")
     done
     while [ ${#running[@]} -gt 0 ]; do finish_one; done
-    run_x86 "$build/differential" --table "${files[@]}" || failed=1
+    run_x86 "$build/$name" --table "${files[@]}" || failed=1
     rm -r "$counts"
     return $failed
 }
@@ -108,7 +109,25 @@ finish_one() {
     running=("${running[@]:1}")
 }
 
-# speed [compare] [growth] [stack] [--round MILLISECONDS]: the Rust as a release build has it, without checks for overflow
+# differential [--requests N] [SEED ..]: N requests for each seed
+differential() {
+    local size=130000
+    [ "${1:-}" != --requests ] || { size=$2 && shift 2; }
+    oracle_crates on
+    program differential wire scope published generator
+    seeds differential "$size" "$@"
+}
+
+# files [--files N] [SEED ..]: N table files for each seed
+files() {
+    local size=130000
+    [ "${1:-}" != --files ] || { size=$2 && shift 2; }
+    oracle_crates on
+    program files wire scope generator
+    seeds files "$size" "$@"
+}
+
+# speed [compare] [files] [growth] [stack] [--round MILLISECONDS]: the Rust as a release build has it, without checks for overflow
 speed() {
     oracle_crates off
     program speed wire scope published

@@ -1,9 +1,10 @@
 /* Demsharin: verified unit arithmetic. The functions of libdemsharin.a, for C and C++ on x86-64.
  *
  * Every function takes byte slices, each as a pointer and a length: the table (but for
- * demsharin_prefix_factor), the arguments in order, and last the room for the answer. It returns 0 if
- * it answered, or the number of a refusal. Any bytes of any length may be given: what breaks a rule is
- * refused. A refusal writes nothing; an answer leaves what lies behind it in a longer room.
+ * demsharin_prefix_factor and the two that read a file), the arguments in order, and last the room for
+ * the answer. It returns 0 if it answered, or the number of a refusal. Any bytes of any length may be
+ * given: what breaks a rule is refused. A refusal writes nothing; an answer leaves what lies behind it in
+ * a longer room.
  *
  * The room must not overlap an argument, and no pointer may be null, not even with the length 0.
  * Functions keep nothing between calls and may be called from several threads; each needs less than
@@ -26,6 +27,17 @@
  * A value's bits are those of a binary64; any NaN counts as the one that answers have,
  * 0x7ff8000000000000. A table is a run of at most 128 Rows, at most 16 of them base; ranks differ, a
  * definition names lower rows only. Candidates are a run of at most 32, their ranks rising.
+ *
+ * A table file is what sites send each other: any bytes, which are read by these rules. A number is in
+ * groups of seven bits, low group first, the high bit set on all but the last, in the shortest form
+ * only; a signed one is folded first (0, -1, 1, -2 become 0, 1, 2, 3). The file is the number of rows,
+ * then for each row rank and kind (0 base, 1 derived), and for a derived one the factor's eight bytes,
+ * lowest first, the number of its factors, and for each of these row, prefix kind (0 metric, 1 binary),
+ * folded n, folded numerator, denominator. Nothing follows the last row. An admitted table has one file.
+ *
+ *   Written     0 length u32          4 reserved u32          8 the file, so many bytes
+ *   Read        0 rows u32            4 reserved u32          8 Row, so many
+ *   Salvaged    0 rows kept u32       4 byte u32              8 Row, so many
  */
 #ifndef DEMSHARIN_H
 #define DEMSHARIN_H
@@ -45,6 +57,13 @@
 #define DEMSHARIN_REDUCED_BYTES 332
 #define DEMSHARIN_NUMBER_BYTES 4
 #define DEMSHARIN_VALUE_BYTES 8
+
+/* A file's longest, and what holds every Written; what holds every Read and every Salvaged. */
+#define DEMSHARIN_FILE_BYTES 15890
+#define DEMSHARIN_WRITTEN_BYTES 15898
+#define DEMSHARIN_ROWS_BYTES 22536
+/* What stands before the file's bytes or the rows. */
+#define DEMSHARIN_HEAD_BYTES 8
 
 /* How many there may be. */
 #define DEMSHARIN_LIST_FACTORS 16
@@ -68,7 +87,9 @@ enum demsharin_refusal {
     DEMSHARIN_DIVZERO = 8,   /* the divisor's value is zero */
     DEMSHARIN_ZERONEG = 9,   /* zero to an exponent below zero */
     DEMSHARIN_NONWHOLE = 10, /* a power by a value that isn't whole */
-    DEMSHARIN_NAN = 11       /* a comparison with a NaN, or a NaN after conversion */
+    DEMSHARIN_NAN = 11,      /* a comparison with a NaN, or a NaN after conversion */
+    DEMSHARIN_FORMAT = 12    /* a file that breaks its rules, has a number above 4294967295, a rank above
+                                65535 or a definition of over 8 factors, or has more rows than there is room */
 };
 
 #ifdef __cplusplus
@@ -178,6 +199,21 @@ uint32_t demsharin_full_simplify_with(const uint8_t *table, size_t table_len, co
 /* Quantity -> Quantity without the mark. */
 uint32_t demsharin_no_simplify(const uint8_t *table, size_t table_len, const uint8_t *quantity,
                                size_t quantity_len, uint8_t *out, size_t out_len);
+
+/* -> Written: the table's file. The room for the file is out_len - 8, and DEMSHARIN_WRITTEN_BYTES always
+ * suffice; ROOM if it is too little, after every refusal of the table. */
+uint32_t demsharin_write_table(const uint8_t *table, size_t table_len, uint8_t *out, size_t out_len);
+
+/* file -> Read: its rows. There is room for (out_len - 8) / 176, rounded down, and DEMSHARIN_ROWS_BYTES
+ * always suffice; rows behind those that are read keep their bytes. FORMAT for a fault anywhere in the file
+ * or more rows than there is room, then what the rows as a table are refused for; ROOM below 8 bytes. */
+uint32_t demsharin_read_table(const uint8_t *file, size_t file_len, uint8_t *out, size_t out_len);
+
+/* file -> Salvaged: the whole, admitted rows before the first fault, which are a table of their own. The byte
+ * is where the first row not kept begins, or where the rows end; 0 if the number of rows can't be read. A
+ * number too high is a fault only at the row without a place: behind the room's last, or the 129th. Only the
+ * rows kept are written. Nothing is refused but ROOM below 8 bytes. */
+uint32_t demsharin_salvage_table(const uint8_t *file, size_t file_len, uint8_t *out, size_t out_len);
 
 #ifdef __cplusplus
 }

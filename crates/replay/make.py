@@ -11,7 +11,7 @@ import struct
 
 HERE = pathlib.Path(__file__).parent
 DATA = HERE / "data"
-TWO = {5, 7, 8, 15, 16, 21, 23}
+TWO = {5, 7, 8, 15, 16, 21, 23, 24, 25, 26}
 STANDING = range(1, 24)
 
 
@@ -67,8 +67,8 @@ def said(name, right, found, used):
 
 def main():
     names = [f"call-{code:02}.bin" for code in STANDING]
-    names += ["edges-admissions.bin", "edges-limits.bin"]
-    names += ["named-rules.bin", "named-simplifications.bin", "named-sixteenth.bin"]
+    names += ["edges-admissions.bin", "edges-files.bin", "edges-limits.bin"]
+    names += ["named-files.bin", "named-rules.bin", "named-simplifications.bin", "named-sixteenth.bin"]
     stored = {name: (DATA / name).read_bytes() for name in names}
     source = list(records(stored["call-18.bin"]))[:40]
     wrong = [(request, framed(spoil(k, answer))) for k, (request, answer) in enumerate(source)]

@@ -1,7 +1,9 @@
 // One request answered by the archive, and held against the Rust, 01's reading and the byte form's rules for lent room.
 use std::panic::{self, AssertUnwindSafe};
 
+use demsharin::bytes::HEAD_BYTES;
 use generator::random::Random;
+use wire::calls::FILES;
 use wire::refusals::{self, OUTSIDE_PANIC, ROOM, is_outside};
 use wire::stream::{Answer, Request};
 use wire::text;
@@ -41,6 +43,11 @@ fn answered(request: &Request, room: usize) -> (u32, Vec<u8>) {
     (number, out)
 }
 
+/// Below the head of an answer with rows or a file there is no room for one.
+fn with_nothing_lent(request: &Request) -> Request {
+    Request { code: request.code, arguments: vec![request.arguments[0].clone(), Vec::new()] }
+}
+
 /// What the room must hold: the answer and behind it the paint, or the paint alone.
 fn expected(reading: &Answer, room: usize) -> Vec<u8> {
     let mut out = vec![PAINT; room];
@@ -59,7 +66,9 @@ impl Judge {
         let reading = scope::calls::answer(request);
         let rust = by_the_rust(request);
         let spare = self.random.pick(&[0, 0, 1, 7, 40]);
-        let room = answer_bytes(request.code) + spare;
+        // What a write is lent says whether it has room, so no more may be lent.
+        let spare = if request.code == *FILES.start() { 0 } else { spare };
+        let room = answer_bytes(request) + spare;
         let (number, out) = answered(request, room);
         let judged = !is_outside(rust.number);
         let alike = number == reading.number && out == expected(&reading, room) && (!judged || rust == reading);
@@ -83,8 +92,11 @@ impl Judge {
         if !self.random.percent(12) {
             return true;
         }
-        let room = self.random.below(answer_bytes(request.code));
-        let wanted = if reading.number == 0 { ROOM } else { reading.number };
+        let (room, number) = match FILES.contains(&request.code) {
+            true => (self.random.below(HEAD_BYTES), scope::calls::answer(&with_nothing_lent(request)).number),
+            false => (self.random.below(answer_bytes(request)), reading.number),
+        };
+        let wanted = if number == 0 { ROOM } else { number };
         let fits = answered(request, room) == (wanted, vec![PAINT; room]);
         self.short += u64::from(fits);
         fits

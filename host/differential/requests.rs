@@ -1,6 +1,7 @@
 // The requests of a seed: the oracle's generator in several of its ways.
 use generator::random::Random;
 use generator::{faults, noise, requests, wild};
+use wire::calls::CODES;
 use wire::stream::Request;
 
 /// How often each way is gone: as they come, over about three rows, over up to 128, mostly with a fault, with bytes
@@ -8,7 +9,7 @@ use wire::stream::Request;
 const WEIGHTS: [usize; 6] = [42, 25, 9, 14, 5, 5];
 
 pub fn next(random: &mut Random) -> Request {
-    let code = 1 + random.below(23) as u32;
+    let code = 1 + random.below(*CODES.end() as usize) as u32;
     let way = random.weighted(&WEIGHTS);
     let (rows, share) = match way {
         1 => (3, 4),

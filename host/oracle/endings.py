@@ -23,10 +23,10 @@ from collections import Counter
 
 LIMIT = 65536
 END = b"\xff\xff\xff\xff"
-TWO = {5, 7, 8, 15, 16, 21, 23}
+TWO = {5, 7, 8, 15, 16, 21, 23, 24, 25, 26}
 ANSWERS = {1: 8, 6: 4, 7: 332, 17: 4, 18: 4, 20: 12} | dict.fromkeys([2, 3, 4, 5, 19], 324)
-QUANTITY = 336
-REFUSALS = range(1, 12)
+QUANTITY, ROW = 336, 176
+REFUSALS = range(1, 13)
 
 
 def arguments(code):
@@ -109,9 +109,9 @@ def longest(rng, good, codes):
 
 def unknown(rng, good, codes):
     """A code that is not known, also one that its low bits would make a known one, over arguments that would fit."""
-    absent = [code for code in range(1, 24) if code not in codes]
-    high = [255, 256, 256 + 5, 65536 + 2, 2**31, 2**31 + 9, 2**32 - 1, rng.randrange(24, 2**32)]
-    code = rng.choice([0, 24, 25] + high + 3 * absent)
+    absent = [code for code in range(1, 27) if code not in codes]
+    high = [255, 256, 256 + 5, 65536 + 2, 2**31, 2**31 + 9, 2**32 - 1, rng.randrange(27, 2**32)]
+    code = rng.choice([0, 27, 28] + high + 3 * absent)
     fits = [request for request in good if arguments(word(request, 0)) == arguments(code)]
     return words(code) + rng.choice([rng.choice(fits)[4:], b"", b"\x00"]) + after(rng, good)
 
@@ -122,7 +122,7 @@ def noise(rng, good, codes):
 
 def small_words(rng, good, codes):
     """Small words, most of them whole multiples of four: codes and short lengths, so that requests come about."""
-    small = [rng.randrange(25) if rng.random() < 0.1 else 4 * rng.randrange(6) for _ in range(rng.randrange(1, 300))]
+    small = [rng.randrange(28) if rng.random() < 0.1 else 4 * rng.randrange(6) for _ in range(rng.randrange(1, 300))]
     return words(rng.choice([2, 4, 8, 20]), *small)
 
 
@@ -177,12 +177,19 @@ def feed(file):
 # ---- checking
 
 
+def right_length(code, stream, at):
+    """Of the answer that begins at a place; that of a file's call says by its first number how much is behind its head."""
+    if code < 24:
+        return ANSWERS.get(code, QUANTITY)
+    return 8 + (word(stream, at) or 0) * (1 if code == 24 else ROW)
+
+
 def answers(stream, found):
     """What stands behind one answer for each request; None if one is missing or is none."""
     at = 0
     for request in found:
         code, number, length = word(request, 0), word(stream, at), word(stream, at + 4)
-        right = length == ANSWERS.get(code, QUANTITY) if number == 0 else number in REFUSALS and length == 0
+        right = length == right_length(code, stream, at + 8) if number == 0 else number in REFUSALS and length == 0
         if not right or at + 8 + length > len(stream):
             return None
         at += 8 + length

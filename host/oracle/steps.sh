@@ -1,7 +1,7 @@
 # The steps of `run`, sourced with $here, $root, $build, $published and $streams set.
 
 # The codes that `calls` answers, every other being an unknown one to it; and those that are asked.
-standing=$(seq -s, 1 23)
+standing=$(seq -s, 1 26)
 asked=${ORACLE_CODES:-$standing}
 
 # The stored records stand beside the program that answers them again.
@@ -95,6 +95,26 @@ wrong() {
         python3 "$here/wrong.py" "$name" "$folder"
         wrong_reader "$folder"
         generated=$(changed "$folder" "$streams/requests" "$streams/rust")
+        stored=$(changed "$folder" "$streams/stored-requests" "$streams/stored")
+        echo "| $name | $generated | $stored |"
+        rm -rf "$folder"
+    done
+    wrong_files
+}
+
+# The same for wrong readings of 02's order 1, which the right reading judges.
+wrong_files() {
+    local name folder generated stored
+    program generate 1 60000 --calls 24,25,26 --faults 60 >"$streams/requests"
+    program oracle --reading <"$streams/requests" >"$streams/right"
+    program store split "$streams/stored-requests" "$streams/stored" "$records"/{named,edges}-files.bin
+    echo '| wrong reading of a table file | of 60,000 generated | of the stored files |'
+    echo '|---|---|---|'
+    for name in $(python3 "$here/wrong.py" files); do
+        folder=$streams/$name
+        python3 "$here/wrong.py" "$name" "$folder"
+        wrong_reader "$folder"
+        generated=$(changed "$folder" "$streams/requests" "$streams/right")
         stored=$(changed "$folder" "$streams/stored-requests" "$streams/stored")
         echo "| $name | $generated | $stored |"
         rm -rf "$folder"
@@ -278,6 +298,20 @@ edges() {
         program oracle --reading <"$streams/requests" >"$streams/reading"
         echo "$name:"
         program compare "$streams"/{requests,rust,reading,stored} || failed=1
+    done
+    python3 "$root/crates/replay/make.py"
+    return $failed
+}
+
+# The stored table files, made anew with Python's answers; the reading answers alike.
+files() {
+    local name failed=0
+    python3 -B "$here/files.py" write "$records"
+    for name in named-files edges-files; do
+        program store split "$streams/requests" "$streams/stored" "$records/$name.bin"
+        program oracle --reading <"$streams/requests" >"$streams/reading"
+        echo "$name:"
+        program compare "$streams"/{requests,reading,stored} || failed=1
     done
     python3 "$root/crates/replay/make.py"
     return $failed

@@ -1,8 +1,9 @@
 #!/usr/bin/env python3
-# Puts one wrong reading of 01 into a copy of the folder `scope`, to see whether the generated requests and the stored list
-# show it. Each is an exact text put for another that must stand there once.
+# Puts one wrong reading of 01, or of 02's order 1, into a copy of the folder `scope`, to see whether the generated
+# requests and the stored list show it. Each is an exact text put for another that must stand there once.
 #
-#   wrong.py list              names all
+#   wrong.py list              names all of 01
+#   wrong.py files             names all of 02's order 1
 #   wrong.py NAME FOLDER       writes the copy with that one
 import pathlib
 import shutil
@@ -46,14 +47,46 @@ WRONG = {
     "negative-power-of-inverse": ("reduction.rs", "if n < 0 { 1.0 / r }", "if n < 0 { power(1.0 / base, -n) }"),
 }
 
+SHORTEST = "let shortest = byte != 0 || weight == 1;"
+NO_ROW = "let Some(row) = reader.row() else { break };"
+NO_NEXT = "let Ok(next) = admitted_row(&known, &row) else { break };"
+NONE = "let most = if count as usize > places { 0 } else { most };"
+PLACES = "let most = places.min(ROWS).min(count as usize);"
+ADMITTED = "admitted(rows.clone())?;\n    let file"
+
+FILES = {
+    "padded-numbers": ("files.rs", SHORTEST, "let shortest = true;"),
+    "padded-twice": ("files.rs", SHORTEST, "let shortest = weight != 128 || byte != 0;"),
+    "over-32-bits": ("files.rs", "(shortest && n <= MOST)", "shortest"),
+    "bytes-behind": ("files.rs", "(reader.at == file.len()).then_some(rows)", "Some(rows)"),
+    "any-rank": ("files.rs", "self.up_to(MOST_RANK)? as u16", "self.number()? as u16"),
+    "any-kind": ("files.rs", "if self.up_to(1)? == 0 {", "if self.number()? == 0 {"),
+    "any-prefix-kind": ("files.rs", "kind: self.up_to(1)?", "kind: self.number()?"),
+    "any-length": ("files.rs", "self.up_to(DEF_PLACES as u32)?", "self.number()?"),
+    "folded-from-1": ("files.rs", "-(n + 1) / 2", "-(n / 2)"),
+    "high-byte-first": ("files.rs", "<< (8 * place)", "<< (56 - 8 * place)"),
+    "any-places": ("files.rs", ".filter(|rows| rows.len() <= places)", ""),
+    "places-are-128": ("files.rs", "rows.len() <= places)", "rows.len() <= places.min(ROWS))"),
+    "not-admitted": ("files.rs", "    admitted(Some(rows.clone()))?;\n", ""),
+    "room-first": ("files.rs", ADMITTED, "if room == 0 {\n        return Err(ROOM);\n    }\n    " + ADMITTED),
+    "one-byte-more": ("files.rs", "file.len() > room", "file.len() >= room"),
+    "base-factor-written": ("files.rs", "if row.kind != 0 {", "if true {"),
+    "fault's-byte": ("files.rs", NO_ROW, "let Some(row) = reader.row() else { kept.byte = reader.at; break };"),
+    "faulty-row-kept": ("files.rs", NO_NEXT, NO_NEXT.replace("{ break }", "{ kept.rows.push(row); break }")),
+    "admission-passed-over": ("files.rs", NO_NEXT, NO_NEXT.replace("{ break }", "{ continue }")),
+    "count-too-high-keeps-none": ("files.rs", PLACES, PLACES + NONE),
+    "over-128-kept": ("files.rs", PLACES, "let most = places.min(count as usize);"),
+    "byte-1-for-no-count": ("files.rs", "byte: 0 }", "byte: 1 }"),
+}
+
 
 def main():
-    if sys.argv[1:] == ["list"]:
-        print("\n".join(WRONG))
+    if sys.argv[1:] in (["list"], ["files"]):
+        print("\n".join(WRONG if sys.argv[1] == "list" else FILES))
         return
     name, folder = sys.argv[1], pathlib.Path(sys.argv[2])
     shutil.copytree(HERE / "scope", folder)
-    file, old, new = WRONG[name]
+    file, old, new = (WRONG | FILES)[name]
     text = (folder / file).read_text()
     if text.count(old) != 1:
         sys.exit(f"wrong: {name} applies {text.count(old)} times")

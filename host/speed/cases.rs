@@ -1,4 +1,5 @@
 // What is timed: for every call one request or more over a table.
+use demsharin::bytes::FILE_BYTES;
 use wire::bytes::{put_candidate, put_exponent};
 use wire::making::{list, over, prefix, quantity};
 use wire::records::{Candidate, Exponent};
@@ -113,6 +114,10 @@ impl Over<'_> {
     }
 }
 
+fn number(n: u32) -> Vec<u8> {
+    n.to_le_bytes().to_vec()
+}
+
 fn exponent(n: i32) -> Vec<u8> {
     let mut out = Vec::new();
     put_exponent(&mut out, Exponent { num: n, den: 1 });
@@ -136,9 +141,20 @@ pub fn all(named: &Named) -> Vec<Case> {
     all
 }
 
+/// The calls on a table's file, behind one that does hardly more than admit the table.
+pub fn files(named: &Named) -> Vec<Case> {
+    let (over, file) = (Over(named), scope::files::file(&named.rows));
+    let (room, places) = (number(FILE_BYTES as u32), number(named.rows.len() as u32));
+    let of_file = |code| {
+        let request = Request { code, arguments: vec![file.clone(), places.clone()] };
+        Case { what: String::new(), request }
+    };
+    vec![over.case("", 15, [over.of(1.5, SPEED)]), over.case("", 24, [room]), of_file(25), of_file(26)]
+}
+
 /// Those that go deepest into the stack.
 pub fn deep(named: &Named) -> Vec<Case> {
-    joined([prefixes(), all(named), Over(named).long()])
+    joined([prefixes(), all(named), Over(named).long(), files(named)])
 }
 
 fn joined<const N: usize>(parts: [Vec<Case>; N]) -> Vec<Case> {

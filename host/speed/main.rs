@@ -1,12 +1,14 @@
-// The archive's exported calls against the published Rust's own, in one process: times, growth, depth of the stack.
+// The archive's exported calls against the published Rust's own, in one process: times, growth, depth of the stack. The
+// calls on table files are timed against `negate`.
 //
-//   speed [compare] [growth] [stack] [--round MILLISECONDS]    all three unless said; a round is 20 milliseconds
+//   speed [compare] [files] [growth] [stack] [--round MILLISECONDS]    all unless said; a round is 20 milliseconds
 //
 // Ends with 1 if the answers to a timed request differ, or a call needs 512 KiB of stack or more. Under an emulator
 // times are only good as ratios within one run.
 #[path = "../by_code.rs"]
 mod by_code;
 mod cases;
+mod files;
 mod growth;
 mod original;
 mod sides;
@@ -66,7 +68,7 @@ fn depths() -> Result<(), String> {
     let mut deepest: BTreeMap<u32, usize> = BTreeMap::new();
     for case in cases::deep(&tables::full()) {
         let request = &case.request;
-        let mut out = vec![0; by_code::answer_bytes(request.code)];
+        let mut out = vec![0; by_code::answer_bytes(request)];
         let depth = stack::depth(|| {
             black_box(by_code::call(black_box(request), black_box(&mut out)));
         });
@@ -86,7 +88,7 @@ fn run() -> Result<(), String> {
     let (mut parts, mut given) = (Vec::new(), std::env::args().skip(1));
     while let Some(argument) = given.next() {
         match argument.as_str() {
-            "compare" | "growth" | "stack" => parts.push(argument),
+            "compare" | "files" | "growth" | "stack" => parts.push(argument),
             "--round" => {
                 let number = given.next().and_then(|n| n.parse().ok()).ok_or("--round MILLISECONDS")?;
                 round = Duration::from_millis(number);
@@ -97,6 +99,9 @@ fn run() -> Result<(), String> {
     let wanted = |part: &str| parts.is_empty() || parts.iter().any(|p| p == part);
     if wanted("compare") {
         compare(round)?;
+    }
+    if wanted("files") {
+        files::compare(round)?;
     }
     if wanted("growth") {
         grow(round)?;

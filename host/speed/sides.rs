@@ -10,7 +10,7 @@ use crate::original;
 use crate::timing::per_call;
 
 /// Each side has so many rounds, by turns, and the best one counts.
-const ROUNDS: usize = 5;
+pub const ROUNDS: usize = 5;
 
 /// Nanoseconds a call.
 #[derive(Clone, Copy)]
@@ -40,7 +40,7 @@ impl Times {
 }
 
 fn archive(request: &Request) -> Answer {
-    let mut out = vec![0; answer_bytes(request.code)];
+    let mut out = vec![0; answer_bytes(request)];
     match call(request, &mut out) {
         0 => Answer::given(out),
         number => Answer::refused(number),
@@ -55,8 +55,8 @@ fn agree(case: &Case) -> bool {
 }
 
 /// The exported call over arguments made beforehand; the table is checked in it, as always.
-fn library(request: &Request, round: Duration) -> f64 {
-    let mut out = vec![0; answer_bytes(request.code)];
+pub fn library(request: &Request, round: Duration) -> f64 {
+    let mut out = vec![0; answer_bytes(request)];
     per_call(round, || (), |()| call(black_box(request), black_box(&mut out)))
 }
 

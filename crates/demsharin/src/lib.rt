@@ -1,4 +1,5 @@
-// The library as it ships: the calls over lent rows, passed on here, and as exported C functions over bytes, in `exports`.
+// The library as it ships: the calls over lent rows, passed on here, and as exported C functions over bytes, in `exports`
+// and `files`.
 pub use lentcalls::abs;
 pub use lentcalls::add;
 pub use lentcalls::canonical;
@@ -22,5 +23,9 @@ pub use lentcalls::reduce_list;
 pub use lentcalls::same_list;
 pub use lentcalls::smaller_unit;
 pub use lentcalls::subtract;
+pub use lentfiles::read_table;
+pub use lentfiles::salvage_table;
+pub use lentfiles::write_table;
 
-pub mod exports; // every call as a C function over bytes
+pub mod exports; // every call of 01 as a C function over bytes
+pub mod files; // the calls on table files as C functions over bytes

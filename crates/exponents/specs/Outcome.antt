@@ -1,9 +1,9 @@
--- An answer, or one of the refusals of 01's table. A refusal is passed on as it is: what stands above an operation never names its refusal.
+-- An answer, or one of the refusals of 01's table and of 02's orders. A refusal is passed on as it is: what stands above an operation never names its refusal.
 use mathlib.Core.Bool.{Bool, true, false}
 use mathlib.Core.List.{List, [], _∷_}
 use Prim.Native.Nat.{ℕ}
 
--- 01, "The refusals"
+-- 01, "The refusals"; the last is 02's, order 1
 pub data Refusal : Type 0 where
   TABLE : Refusal
   SHAPE : Refusal
@@ -16,8 +16,9 @@ pub data Refusal : Type 0 where
   ZERONEG : Refusal
   NONWHOLE : Refusal
   NAN : Refusal
+  FORMAT : Refusal
 
--- 01, "The refusals": the numbers
+-- 01, "The refusals", and 02: the numbers
 abbrev pub number : Refusal → ℕ
 number TABLE = 1
 number SHAPE = 2
@@ -30,6 +31,7 @@ number DIVZERO = 8
 number ZERONEG = 9
 number NONWHOLE = 10
 number NAN = 11
+number FORMAT = 12
 
 pub data Outcome (A : Type 0) : Type 0 where
   given : A → Outcome A

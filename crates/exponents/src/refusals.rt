@@ -1,4 +1,5 @@
-// 01's table "The refusals", as the numbers that code hands over. `specs/Outcome` has the same numbers for the definitions.
+// 01's table "The refusals" and those of 02's orders, as the numbers that code hands over. `specs/Outcome` has the same
+// numbers for the definitions.
 
 // over 128 rows, or a row breaks the table rules
 pub const TABLE: u32 = 1;
@@ -22,3 +23,5 @@ pub const ZERONEG: u32 = 9;
 pub const NONWHOLE: u32 = 10;
 // comparison with a NaN operand, or a NaN after conversion
 pub const NAN: u32 = 11;
+// a file that breaks the rules of a table file (02, order 1)
+pub const FORMAT: u32 = 12;

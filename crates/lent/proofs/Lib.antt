@@ -1,4 +1,5 @@
 pub mod Laws
+pub mod Turns
 pub mod Drop
 pub mod Lent
 pub mod Rowed

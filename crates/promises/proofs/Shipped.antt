@@ -5,7 +5,7 @@ use Prim.Native.Nat.{ℕ, _≤_}
 use native.Mathlib.Omega.{arith}
 use borrow.Author.Tests.{le-ltb}
 use lib.ListN.{length, drop, replicate, length-replicate}
-use Rattle.exponents.specs.Outcome.{Refusal, TABLE, SHAPE, UNKNOWN, ROOM, RANGE, UNITS, FRACTION, DIVZERO, ZERONEG, NONWHOLE, NAN, number, Outcome, given, refused, unless, apply, bind, refusalOf}
+use Rattle.exponents.specs.Outcome.{Refusal, TABLE, SHAPE, UNKNOWN, ROOM, RANGE, UNITS, FRACTION, DIVZERO, ZERONEG, NONWHOLE, NAN, FORMAT, number, Outcome, given, refused, unless, apply, bind, refusalOf}
 use Rattle.exponents.proofs.Holds.{Holds, held}
 use Rattle.units.specs.declared.Quantity.{Quantity}
 use Rattle.units.specs.declared.Row.{Row}
@@ -45,6 +45,7 @@ heard-refusal DIVZERO a = refl
 heard-refusal ZERONEG a = refl
 heard-refusal NONWHOLE a = refl
 heard-refusal NAN a = refl
+heard-refusal FORMAT a = refl
 
 -- ---- what a caller makes of the answer is the call's outcome
 

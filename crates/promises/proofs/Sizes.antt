@@ -1,17 +1,18 @@
--- No answer is longer than a quantity, so that room for one is room for every answer: the stream's own room refuses none.
+-- How long an answer is at most: each of 01's as long as a quantity, and none longer than the stream's longest, so that the stream's own room refuses none.
 use mathlib.Core.Path.{_≡_, refl, sym, _∙_}
 use mathlib.Core.Logic.{_↔_}
 use mathlib.Core.List.{List, [], _∷_, _++_}
 use Prim.Native.Nat.{ℕ, _≤_}
 use native.Mathlib.Omega.{arith}
 use borrow.Author.Tests.{le-ltb}
-use lib.Dec.{eqb}
+use lib.Dec.{eqb, ltb}
 use lib.Ieee.{Float}
-use lib.ListN.{length, length-append, length-replicate}
+use lib.ListN.{length, length-append}
 use Rattle.exponents.specs.Outcome.{Outcome, refused, ROOM, unless, apply, bind}
-use Rattle.exponents.proofs.Holds.{holds-all, Holds, moot, held, holds-imp, holds-map}
+use Rattle.exponents.proofs.Holds.{holds-all, holds-eq, holds-bind, holds-unless, Holds, moot, held, holds-imp, holds-map}
 use Rattle.units.specs.declared.Factor.{Factor}
 use Rattle.units.specs.declared.Quantity.{Quantity}
+use Rattle.units.specs.declared.Row.{Row}
 use Rattle.units.specs.Prefixes.{prefixFactor}
 use Rattle.units.specs.Lists.{pack}
 use Rattle.exponents.proofs.Words.{pick-is}
@@ -33,8 +34,16 @@ use Rattle.codes.specs.Codes.{Call, look}
 use Rattle.codelists.specs.Calls as codelists
 use Rattle.codevalues.specs.Calls as codevalues
 use Rattle.codesimplify.specs.Calls as codesimplify
+use Rattle.wiretables.specs.Arguments.{wordFrom}
+use Rattle.tablefiles.specs.Calls as files
+use Rattle.tablefiles.proofs.Sized.{read-few, read-full, kept-few, kept-full}
+use Rattle.filepromises.proofs.Files.{file-brief}
+use Rattle.askfiles.specs.Calls as askfiles
+use Rattle.askfiles.proofs.Rowed.{Full, rows-sized}
+use Rattle.codefiles.specs.Calls as codefiles
 use Rattle.stream.specs.Calls.{calls, callOf}
-use Rattle.stream.specs.Stream.{lent, answerTo, answered}
+use Rattle.stream.specs.Stream.{longest, lent, answerTo, answered}
+use Rattle.stream.proofs.Answering.{lent-length}
 use Rattle.promises.proofs.Rounded.{ValueFits}
 use Rattle.promises.proofs.Fitting as fitting
 use Rattle.promises.proofs.Fitting.{read-fits}
@@ -42,6 +51,10 @@ use Rattle.promises.proofs.Fitting.{read-fits}
 -- at most as long as a quantity
 abbrev pub Short : List ℕ → Type 0
 Short bs = length bs ≤ 336
+
+-- no longer than the longest answer
+abbrev pub NoLonger : List ℕ → Type 0
+NoLonger bs = length bs ≤ longest
 
 -- ---- the answers' bytes
 
@@ -70,18 +83,19 @@ multiple-sized none = simp (length-append, length-bytesOf, length-exponentBytes)
 
 -- ---- every call
 
-abbrev Brief : Call → Type 0
-Brief c = (x y z : List ℕ) → Holds Short (c .answer x y z)
+-- a call answers so, whatever it is asked
+abbrev Always : (List ℕ → Type 0) → Call → Type 0
+Always P c = (x y z : List ℕ) → Holds P (c .answer x y z)
 
 infixr 1 _and_
--- each call of a list answers so, whatever it is asked
-data Each : List Call → Type 0 where
-  done : Each []
-  _and_ : {c : Call} {l : List Call} → Brief c → Each l → Each (c ∷ l)
+-- each call of a list does
+data Each (P : List ℕ → Type 0) : List Call → Type 0 where
+  done : Each P []
+  _and_ : {c : Call} {l : List Call} → Always P c → Each P l → Each P (c ∷ l)
 
-lists-brief : Each codelists.calls
+lists-short : Each Short codelists.calls
 unfolding codelists.calls asklists.prefixFactor asklists.product asklists.quotient asklists.listPower asklists.canonical asklists.sameList asklists.reduceList asklists.smallerUnit asklists.isMultipleOf verdictBytes
-lists-brief =
+lists-short =
     (λ p _ _. sized valueBytes 8 (omega arith) value-sized (prefixFactor (prefixFrom p)))
     and (λ t a b. unit-short (fitting.product-fits (tableFrom t) (listFrom a) (listFrom b)))
     and (λ t a b. unit-short (fitting.quotient-fits (tableFrom t) (listFrom a) (listFrom b)))
@@ -93,9 +107,9 @@ lists-brief =
     and (λ t a b. sized multipleBytes 12 (omega arith) multiple-sized (lists.multiple (tableFrom t) (listFrom a) (listFrom b)))
     and done
 
-values-brief : Each codevalues.calls
+values-short : Each Short codevalues.calls
 unfolding codevalues.calls askvalues.reduce askvalues.convertTo askvalues.add askvalues.subtract askvalues.multiply askvalues.checkedDiv askvalues.checkedPower askvalues.negate askvalues.magnitude askvalues.equal askvalues.compare askvalues.noSimplify verdictBytes orderBytes
-values-brief =
+values-short =
     (λ t a _. quantity-short (fitting.reduce-fits (tableFrom t) (quantityFrom a)))
     and (λ t a b. quantity-short (fitting.convert-fits (tableFrom t) (quantityFrom a) (read-fits a) (listFrom b)))
     and (λ t a b. quantity-short (fitting.add-fits (tableFrom t) (quantityFrom a) (quantityFrom b) (read-fits a) (read-fits b)))
@@ -110,29 +124,55 @@ values-brief =
     and (λ t a _. quantity-short (fitting.unmarked-fits (tableFrom t) (quantityFrom a) (read-fits a)))
     and done
 
-simplify-brief : Each codesimplify.calls
+simplify-short : Each Short codesimplify.calls
 unfolding codesimplify.calls asksimplify.fullSimplify asksimplify.fullSimplifyWith
-simplify-brief =
+simplify-short =
     (λ t a _. quantity-short (fitting.simplify-fits (tableFrom t) (quantityFrom a) (read-fits a)))
     and (λ t a b. quantity-short (fitting.with-fits (tableFrom t) (quantityFrom a) (read-fits a) (candidatesFrom b)))
     and done
 
-both-brief : {l m : List Call} → Each l → Each m → Each (l ++ m)
-both-brief done e = e
-both-brief (b and d) e = b and both-brief d e
+-- ---- table files
 
-calls-brief : Each calls
+file-bounded : (t : List ℕ) (room : ℕ) → Holds NoLonger (askfiles.writeTable t room)
+unfolding askfiles.writeTable askfiles.fileReply
+file-bounded t room =
+    holds-bind _ (holds-eq (files.writeTable (tableFrom t))) λ f e.
+    holds-unless (ltb room (length f)) ROOM λ h.
+    held (simp (length-append, length-bytesOf) (omega (arith, file-brief (tableFrom t) f e)))
+
+rows-bounded : (other : ℕ) (rs : List Row) → length rs ≤ 128 → Full rs → NoLonger (askfiles.rowsReply other rs)
+rows-bounded other rs h k = omega (arith, rows-sized other rs k)
+
+files-bounded : Each NoLonger codefiles.calls
+unfolding codefiles.calls askfiles.readTable askfiles.salvageTable
+files-bounded =
+    (λ t r _. file-bounded t (wordFrom r))
+    and (λ f p _. holds-map (askfiles.rowsReply 0) (holds-eq (files.readTable (wordFrom p) f)) λ rs e. rows-bounded 0 rs (read-few (wordFrom p) f rs e .0) (read-full (wordFrom p) f rs e))
+    and (λ f p _. held (rows-bounded (files.salvage (wordFrom p) f .1) (files.salvage (wordFrom p) f .0) (kept-few (wordFrom p) f .0) (kept-full (wordFrom p) f)))
+    and done
+
+module _ {P : List ℕ → Type 0} where
+  joined : {l m : List Call} → Each P l → Each P m → Each P (l ++ m)
+  joined done e = e
+  joined (b and d) e = b and joined d e
+
+  looked-up : {l : List Call} (n : ℕ) → Each P l → Always P (look l n)
+  unfolding look
+  looked-up n done = λ x y z. moot
+  looked-up n (_and_ {c = c} {l = l} b e) = pick-is (Always P) (eqb n (c .code)) {a = c} {b = look l n} b (looked-up n e)
+
+-- as long as a quantity is no longer than the longest
+at-most : {l : List Call} → Each Short l → Each NoLonger l
+at-most done = done
+at-most (b and d) = (λ x y z. holds-imp (b x y z) λ bs h. omega arith) and at-most d
+
+calls-bounded : Each NoLonger calls
 unfolding calls
-calls-brief = both-brief lists-brief (both-brief values-brief simplify-brief)
+calls-bounded = joined (at-most lists-short) (joined (at-most values-short) (joined (at-most simplify-short) files-bounded))
 
-look-brief : {l : List Call} (n : ℕ) → Each l → Brief (look l n)
-unfolding look
-look-brief n done = λ x y z. moot
-look-brief n (_and_ {c = c} {l = l} b e) = pick-is Brief (eqb n (c .code)) {a = c} {b = look l n} b (look-brief n e)
-
-pub short : (code : ℕ) (s : List ℕ) → Holds Short (answerTo code s)
+pub no-longer : (code : ℕ) (s : List ℕ) → Holds NoLonger (answerTo code s)
 unfolding answerTo callOf
-short code s = look-brief code calls-brief _ _ _
+no-longer code s = looked-up code calls-bounded _ _ _
 
 -- ---- the stream's room
 
@@ -143,8 +183,8 @@ sent-whole room moot = refl
 sent-whole room (held {a = bs} h) = rw (le-ltb (length room) (length bs) h)
 
 pub answered-is : (code : ℕ) (s : List ℕ) → answered code s ≡ answerTo code s
-unfolding answered lent
-answered-is code s = sent-whole lent (holds-imp (short code s) λ bs h. omega (arith, length-replicate {A = ℕ} 336 0))
+unfolding answered
+answered-is code s = sent-whole lent (holds-imp (no-longer code s) λ bs h. omega (arith, lent-length))
 
 -- ROOM in the stream is the call's own
 pub room-own : (code : ℕ) (s : List ℕ) → (answered code s ≡ refused ROOM) ↔ (answerTo code s ≡ refused ROOM)

@@ -105,6 +105,6 @@ fn files(inp: &mut [u8], out: &mut [u8]) {
 
 fn main() {
     let mut inp = inflow::space();
-    let mut out = [0u8; 344];
+    let mut out = [0u8; stream::LONGEST];
     files(&mut inp, &mut out);
 }

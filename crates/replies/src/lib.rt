@@ -50,7 +50,7 @@ pub fn refused(refusal: u32) -> Reply
     }
 }
 
-fn answered(len: usize) -> Reply
+pub fn answered(len: usize) -> Reply
     ensures { λ r. ⌜ (r .refusal ≡ 0) × (r .len ≡ len) ⌝ }
 {
     Reply {

@@ -19,35 +19,18 @@ use Rattle.wire.proofs.Stored.{sets-number}
 use Rattle.replies.specs.Replies.{sent, left}
 use Rattle.replies.specs.Held.{replyOf}
 use Rattle.replies.specs.declared.Reply.{Reply}
-use Rattle.stream.specs.Stream.{lent, answered, answerBytes, framed, behind, ends, answers, next}
+use Rattle.stream.specs.Stream.{longest, lent, place, answered, answerBytes, framed, behind, ends, answers, next}
 use Rattle.stream.specs.declared.Frame.{Frame}
 use Rattle.stream.proofs.Frames.{whole-within}
+use Rattle.replies.proofs.Headed.{left-part, head-written}
 use Rattle.replies.proofs.Sent.{reply-fits}
 
 -- ---- one answer: its two numbers from place o on, and the room behind them
 
--- of the room only the length matters
+-- of a room only the length matters
 sent-alike : (a b : List ℕ) (x : Outcome (List ℕ)) → length a ≡ length b → sent a x ≡ sent b x
 unfolding sent
 sent-alike a b x e = rw e
-
--- what is left in the first k bytes of a room is left in the room
-left-part : (room : List ℕ) (k : ℕ) (q : Outcome (List ℕ)) → k ≤ length room → replyOf q .len ≤ k → left (take k room) q ++ drop k room ≡ left room q
-left-part room k (refused r) h l = take-append-drop k room
-left-part room k (given bs) h l =
-    let m : length bs ≤ length (take k room) = omega (arith, length-take-le k room h) in
-    rw (append-assoc, ← drop-append-le, take-append-drop)
-
-head-written : (out z : List ℕ) (o x y : ℕ) → o + 8 ≤ length out
-    → sets (sets (take (o + 8) out ++ z) o (bytesOf 4 x)) (o + 4) (bytesOf 4 y) ≡ take o out ++ ((bytesOf 4 x ++ bytesOf 4 y) ++ z)
-head-written out z o x y h =
-    let n : length (bytesOf 4 x ++ bytesOf 4 y) ≡ 8 = simp (length-append, length-bytesOf) in
-    let t : length (take (o + 8) out) ≡ o + 8 = length-take-le (o + 8) out h in
-    let a : o + length (bytesOf 4 x ++ bytesOf 4 y) ≤ length (take (o + 8) out ++ z) = omega (arith, length-append (take (o + 8) out) z) in
-    let b : o ≤ length (take (o + 8) out) = omega arith in
-    sym (sets-number 4 x (bytesOf 4 y) (take (o + 8) out ++ z) o)
-    ∙ sets-eq (bytesOf 4 x ++ bytesOf 4 y) (take (o + 8) out ++ z) o a
-    ∙ rw (n, take-append-le o (take (o + 8) out) z b, take-take o (o + 8) out (omega arith), drop-at (take (o + 8) out) z (o + 8) t) (append-assoc (take o out) (bytesOf 4 x ++ bytesOf 4 y) z)
 
 -- the two numbers and what is left behind them: the answer's bytes, and further bytes as they were
 answer-laid : (out : List ℕ) (b : ℕ) (q : Outcome (List ℕ))
@@ -65,25 +48,28 @@ unfolding answerBytes
 length-answer (given bs) = simp (length-append, length-bytesOf) (omega arith)
 length-answer (refused r) = simp (length-append, length-bytesOf)
 
--- the bytes of out from o + 8 to o + 344
+pub lent-length : length lent ≡ longest
+unfolding lent
+lent-length = length-replicate {A = ℕ} longest 0
+
+-- the bytes of out from o + 8 to the end of the place at o
 abbrev size : ℕ → ℕ
-size o = o + 344 - (o + 8)
+size o = o + place - (o + 8)
 
 abbrev room : List ℕ → ℕ → List ℕ
 room out o = take (size o) (drop (o + 8) out)
 
-module _ (out : List ℕ) (o : ℕ) (h : o + 344 ≤ length out) (x : Outcome (List ℕ)) (r : Reply) (e : r ≡ replyOf (sent (room out o) x)) where
+module _ (out : List ℕ) (o : ℕ) (h : o + place ≤ length out) (x : Outcome (List ℕ)) (r : Reply) (e : r ≡ replyOf (sent (room out o) x)) where
   here : size o ≤ length (drop (o + 8) out)
   here = omega (arith, length-drop (o + 8) out)
 
-  room-length : length (room out o) ≡ 336
+  room-length : length (room out o) ≡ longest
   room-length = length-take-le (size o) (drop (o + 8) out) here ∙ omega arith
 
   sent-same : sent (room out o) x ≡ sent lent x
-  unfolding lent
-  sent-same = sent-alike (room out o) _ x (room-length ∙ sym (length-replicate {A = ℕ} 336 0))
+  sent-same = sent-alike (room out o) lent x (room-length ∙ sym lent-length)
 
-  pub reply-short : r .len ≤ 336
+  pub reply-short : r .len ≤ longest
   reply-short = omega (arith, reply-fits (room out o) x r e, room-length)
 
   pub one-end : o + 8 + r .len ≡ o + length (answerBytes (sent lent x))
@@ -128,7 +114,7 @@ pub record Answered (s out₀ : List ℕ) (n e o : ℕ) (out : List ℕ) : Type 
   pub wrote : o ≡ length (answers n s 0)
   pub held : out ≡ answers n s 0 ++ drop o out₀
   pub whole : (k : ℕ) → k < n → next s (ends k s 0) ≡ 0
-  pub roomy : (k : ℕ) → k < n → length (answers k s 0) + 344 ≤ length out₀
+  pub roomy : (k : ℕ) → k < n → length (answers k s 0) + place ≤ length out₀
 
 pub none-answered : (s out : List ℕ) → Answered s out 0 0 0 out
 unfolding ends answers
@@ -144,7 +130,7 @@ module _ (s out₀ : List ℕ) (n e o : ℕ) (out : List ℕ) (so : Answered s o
 
   pub one-answered : (r : ℕ) (out₁ : List ℕ) → r ≡ o + length (answerBytes (answered code (take (f .to - (e + 4)) (drop (e + 4) s))))
       → out₁ ≡ take o out ++ (answerBytes (answered code (take (f .to - (e + 4)) (drop (e + 4) s))) ++ drop r out)
-      → next s e ≡ 0 → o + 344 ≤ length out₀ → Answered s out₀ (n + 1) (f .to) r out₁
+      → next s e ≡ 0 → o + place ≤ length out₀ → Answered s out₀ (n + 1) (f .to) r out₁
   one-answered r out₁ p q z w =
       let b : r ≡ o + length (answerBytes (answered (le 4 s e) (behind s e))) = rw bytes-are at p in
       let a : answers (n + 1) s 0 ≡ answers n s 0 ++ answerBytes (answered (le 4 s e) (behind s e)) = rw (add-one, answers-snoc, ← so .ended) in
@@ -168,13 +154,13 @@ module _ (s : List ℕ) (i : ℕ) where
   next-is code f h e l = rw (le-ltb (length s - i) 4 h, l, e)
 
 -- it is whole, and its answer has room
-pub goes-on : (code : ℕ) (s : List ℕ) (i : ℕ) (f : Frame) (n : ℕ) → i ≤ length s → f ≡ framed code s i → (not (eqb (f .kind) 0) || ltb n 344) ≡ false
-    → (i ≤ f .to) × (f .to ≤ length s) × (344 ≤ n) × (f .kind ≡ 0)
+pub goes-on : (code : ℕ) (s : List ℕ) (i : ℕ) (f : Frame) (n : ℕ) → i ≤ length s → f ≡ framed code s i → (not (eqb (f .kind) 0) || ltb n place) ≡ false
+    → (i ≤ f .to) × (f .to ≤ length s) × (place ≤ n) × (f .kind ≡ 0)
 goes-on code s i f n h lies t =
-    let k : f .kind ≡ 0 = eqb-true (f .kind) 0 (not-false (eqb (f .kind) 0) (or-left (not (eqb (f .kind) 0)) (ltb n 344) t)) in
+    let k : f .kind ≡ 0 = eqb-true (f .kind) 0 (not-false (eqb (f .kind) 0) (or-left (not (eqb (f .kind) 0)) (ltb n place) t)) in
     let w = whole-within code s i h f lies k in
-    (w .0, w .1, ltb-false n 344 (or-right (not (eqb (f .kind) 0)) (ltb n 344) t), k)
+    (w .0, w .1, ltb-false n place (or-right (not (eqb (f .kind) 0)) (ltb n place) t), k)
 
 -- it is whole, and yet the code stops: its answer has no room
-pub stops : (k n : ℕ) → (not (eqb k 0) || ltb n 344) ≡ true → k ≡ 0 → n < 344
-stops k n t z = ltb-true n 344 (rw z at t)
+pub stops : (k n : ℕ) → (not (eqb k 0) || ltb n place) ≡ true → k ≡ 0 → n < place
+stops k n t z = ltb-true n place (rw z at t)

@@ -5,9 +5,10 @@ use Rattle.codes.specs.Codes.{Call, look}
 use Rattle.codelists.specs.Calls as lists
 use Rattle.codevalues.specs.Calls as values
 use Rattle.codesimplify.specs.Calls as simplify
+use Rattle.codefiles.specs.Calls as files
 
 unfoldable pub calls : List Call
-calls = lists.calls ++ (values.calls ++ simplify.calls)
+calls = lists.calls ++ (values.calls ++ (simplify.calls ++ files.calls))
 
 unfoldable pub callOf : ℕ → Call
 callOf n = look calls n

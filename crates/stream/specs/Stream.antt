@@ -47,9 +47,13 @@ part (suc k) s = part k (drop (4 + le 4 s 0) s)
 unfoldable pub answerTo : ℕ → List ℕ → Outcome (List ℕ)
 answerTo code s = callOf code .answer (part 0 s) (part 1 s) (part 2 s)
 
--- the room for one answer: no call's answer is longer than a quantity
+-- the longest answer: a salvaged table's two numbers and 128 rows of 176 bytes
+abbrev pub longest : ℕ
+longest = 22536
+
+-- the room for one answer: no call's is longer (promises/proofs/Sizes)
 unfoldable pub lent : List ℕ
-lent = replicate 336 0
+lent = replicate longest 0
 
 -- the answer that a request gets in this room
 unfoldable pub answered : ℕ → List ℕ → Outcome (List ℕ)
@@ -58,6 +62,10 @@ answered code s = sent lent (answerTo code s)
 unfoldable pub answerBytes : Outcome (List ℕ) → List ℕ
 answerBytes (given bs) = bytesOf 4 0 ++ (bytesOf 4 (length bs) ++ bs)
 answerBytes (refused r) = bytesOf 4 (number r) ++ bytesOf 4 0
+
+-- the place for an answer's bytes
+abbrev pub place : ℕ
+place = 8 + longest
 
 -- ---- many requests
 
@@ -84,7 +92,7 @@ pub record Feeds (s room : List ℕ) (r : Fed) (end : List ℕ) : Type 0 where
   -- each that is answered was whole
   pub each : (k : ℕ) → k < r .count → next s (ends k s 0) ≡ whole 0 .kind
   -- and had room for any answer, behind the answers before it
-  pub roomy : (k : ℕ) → k < r .count → length (answers k s 0) + 344 ≤ length room
+  pub roomy : (k : ℕ) → k < r .count → length (answers k s 0) + place ≤ length room
   pub used : r .used ≡ ends (r .count) s 0
   pub inside : r .used ≤ length s
   pub wrote : r .wrote ≡ length (answers (r .count) s 0)
@@ -92,4 +100,4 @@ pub record Feeds (s room : List ℕ) (r : Fed) (end : List ℕ) : Type 0 where
   pub held : end ≡ answers (r .count) s 0 ++ drop (r .wrote) room
   pub lies : r .next ≡ next s (r .used)
   -- a whole one is left only for want of room
-  pub full : r .next ≡ whole 0 .kind → length room < r .wrote + 344
+  pub full : r .next ≡ whole 0 .kind → length room < r .wrote + place

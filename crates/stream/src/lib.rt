@@ -24,6 +24,11 @@ pub const SHORT: u32 = 1;
 
 pub const BAD: u32 = 2;
 
+// The longest answer, and the place for one with its two numbers.
+pub const LONGEST: usize = 22536;
+
+pub const PLACE: usize = 8 + LONGEST;
+
 // Where an argument lies.
 struct Part {
     from: usize,
@@ -52,7 +57,11 @@ fn arity(code: u32) -> u32
     if v != 0 {
         return v;
     }
-    codesimplify::arity(code)
+    let s = codesimplify::arity(code);
+    if s != 0 {
+        return s;
+    }
+    codefiles::arity(code)
 }
 
 fn cut(kind: u32) -> Frame
@@ -125,7 +134,10 @@ fn call(code: u32, a: &[u8], b: &[u8], c: &[u8], out: &mut [u8]) -> Reply
     if codevalues::arity(code) != 0 {
         return codevalues::call(code, a, b, c, out);
     }
-    codesimplify::call(code, a, b, c, out)
+    if codesimplify::arity(code) != 0 {
+        return codesimplify::call(code, a, b, c, out);
+    }
+    codefiles::call(code, a, b, c, out)
 }
 
 // Answers the request with this code and these bytes behind it.
@@ -148,11 +160,11 @@ pub fn answer(code: u32, args: &[u8], out: &mut [u8]) -> Reply
 
 // Writes the answer to a request from place o on, and tells where it ends.
 fn one(code: u32, args: &[u8], out: &mut [u8], o: usize) -> usize
-    requires { ⌜ o + 344 ≤ length (now out) ⌝ }
-    ensures { λ r. ⌜ (r ≡ o + length (spec.answerBytes (spec.answered code (now (args .entry))))) × (r ≤ o + 344) × (now (out .exit) ≡ take o (now (out .entry)) ++ (spec.answerBytes (spec.answered code (now (args .entry))) ++ drop r (now (out .entry)))) ⌝ }
+    requires { ⌜ o + spec.place ≤ length (now out) ⌝ }
+    ensures { λ r. ⌜ (r ≡ o + length (spec.answerBytes (spec.answered code (now (args .entry))))) × (r ≤ o + spec.place) × (now (out .exit) ≡ take o (now (out .entry)) ++ (spec.answerBytes (spec.answered code (now (args .entry))) ++ drop r (now (out .entry)))) ⌝ }
 {
     let body = o + 8;
-    let end = o + 344;
+    let end = o + PLACE;
     let r = answer(code, args, &mut out[body..end]);
     write_u32(out, o, r.refusal);
     write_u32(out, o + 4, r.len as u32);
@@ -171,7 +183,7 @@ pub fn feed(inp: &[u8], out: &mut [u8]) -> Fed
         let code = read_u32(inp, at);
         let from = at + 4;
         let f = framed(code, inp, from);
-        if (f.kind != WHOLE) | (out.len() - o < 344) {
+        if (f.kind != WHOLE) | (out.len() - o < PLACE) {
             return Fed {
                 count: n,
                 used: at,

@@ -26,7 +26,7 @@ pub fn read_exponent(s: &[u8], at: usize) -> Exponent
     Exponent { num, den }
 }
 
-fn prefix_of(kind: u32, n: i32) -> Prefix
+pub fn prefix_of(kind: u32, n: i32) -> Prefix
     ensures { λ r. ⌜ r ≡ prefixOf kind n ⌝ }
 {
     if kind == 0 {

@@ -24,7 +24,7 @@ pub fn write_exponent(out: &mut [u8], at: usize, e: Exponent)
     write_u32(out, at + 4, e.den);
 }
 
-fn prefix_kind(p: Prefix) -> u32
+pub fn prefix_kind(p: Prefix) -> u32
     ensures { λ r. ⌜ r ≡ prefixKind p ⌝ }
 {
     match p {
@@ -33,7 +33,7 @@ fn prefix_kind(p: Prefix) -> u32
     }
 }
 
-fn prefix_number(p: Prefix) -> i32
+pub fn prefix_number(p: Prefix) -> i32
     ensures { λ r. ⌜ r ≡ prefixNumber p ⌝ }
 {
     match p {

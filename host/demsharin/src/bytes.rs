@@ -25,6 +25,14 @@ pub const REDUCED_BYTES: usize = 332;
 pub const NUMBER_BYTES: usize = 4;
 /// Bytes of an answer that is a value.
 pub const VALUE_BYTES: usize = 8;
+/// Bytes before a file or before rows: how many there are, and the byte where a salvage stopped.
+pub const HEAD_BYTES: usize = 8;
+/// Bytes of the longest file.
+pub const FILE_BYTES: usize = 15_890;
+/// Bytes that hold the answer of every write.
+pub const WRITTEN_BYTES: usize = HEAD_BYTES + FILE_BYTES;
+/// Bytes that hold the answer of every read and of every salvage: the head, 128 rows.
+pub const ROWS_BYTES: usize = HEAD_BYTES + 128 * ROW_BYTES;
 
 const BLANK: Factor = Factor { row: 0, prefix: Prefix::NONE, exponent: Exponent::whole(0) };
 
@@ -101,6 +109,28 @@ fn row(row: &Row) -> [u8; ROW_BYTES] {
 /// Rows as a table.
 pub fn rows(rows: &[Row]) -> Vec<u8> {
     rows.iter().flat_map(row).collect()
+}
+
+/// The row of an answer or of a table: a kind other than 0 is derived, and factors that have no place are left out.
+fn read_row(bytes: &[u8]) -> Row {
+    let word = |at: usize| u16::from_le_bytes([bytes[at], bytes[at + 1]]);
+    let length = read_u32(bytes, 4) as usize;
+    let definition = bytes[16..].chunks_exact(FACTOR_BYTES).take(length).map(read_factor).collect();
+    let kind = match word(2) {
+        0 => Kind::Base,
+        _ => Kind::Derived { factor: read_value_in(&bytes[8..]), definition },
+    };
+    Row { rank: word(0), kind }
+}
+
+/// A table's rows.
+pub fn read_rows(bytes: &[u8]) -> Vec<Row> {
+    bytes.chunks_exact(ROW_BYTES).map(read_row).collect()
+}
+
+/// The two numbers before a file or before rows.
+pub fn read_head(bytes: &[u8]) -> (usize, usize) {
+    (read_u32(bytes, 0) as usize, read_u32(bytes, 4) as usize)
 }
 
 /// Candidates as an argument.

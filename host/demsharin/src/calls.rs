@@ -17,11 +17,11 @@ pub struct Table {
 }
 
 /// The answer's bytes, or the refusal. The room is always enough, so the byte form adds no refusal here.
-fn answered<const N: usize>(call: impl FnOnce(&mut [u8]) -> u32) -> Result<[u8; N], Refusal> {
+pub(crate) fn answered<const N: usize>(call: impl FnOnce(&mut [u8]) -> u32) -> Result<[u8; N], Refusal> {
     let mut out = [0; N];
     match call(&mut out) {
         0 => Ok(out),
-        number => Err(Refusal::of(number).expect("the library has eleven refusals")),
+        number => Err(Refusal::of(number).expect("the library has twelve refusals")),
     }
 }
 
@@ -47,6 +47,16 @@ impl Table {
     /// The table of these rows; any number of them, though over 128 every call answers TABLE.
     pub fn new(rows: &[Row]) -> Table {
         Table { bytes: bytes::rows(rows) }
+    }
+
+    /// The table whose rows have these bytes.
+    pub(crate) fn of_bytes(bytes: &[u8]) -> Table {
+        Table { bytes: bytes.to_vec() }
+    }
+
+    /// The rows as records.
+    pub fn rows(&self) -> Vec<Row> {
+        bytes::read_rows(&self.bytes)
     }
 
     /// The rows in bytes, for [`exports`].

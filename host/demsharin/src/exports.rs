@@ -1,8 +1,8 @@
 //! The archive's functions on byte slices; the only file with `unsafe`.
 //!
-//! Each takes the table (but for [`prefix_factor`]), the arguments in order and the slice for the answer, and returns
-//! the refusal's number, 0 for answered. Any bytes of any length may be given. A refusal leaves `out` as it was; an
-//! answer leaves what lies behind it in `out`.
+//! Each takes the table (but for [`prefix_factor`], [`read_table`] and [`salvage_table`]), the arguments in order and
+//! the slice for the answer, and returns the refusal's number, 0 for answered. Any bytes of any length may be given. A
+//! refusal leaves `out` as it was; an answer leaves what lies behind it in `out`.
 
 macro_rules! exported {
     ($($symbol:ident as $name:ident($($argument:ident),*);)*) => {
@@ -47,4 +47,7 @@ exported! {
     demsharin_full_simplify as full_simplify(table, quantity);
     demsharin_full_simplify_with as full_simplify_with(table, quantity, candidates);
     demsharin_no_simplify as no_simplify(table, quantity);
+    demsharin_write_table as write_table(table);
+    demsharin_read_table as read_table(file);
+    demsharin_salvage_table as salvage_table(file);
 }

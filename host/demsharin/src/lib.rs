@@ -15,11 +15,13 @@
 pub mod bytes;
 mod calls;
 pub mod exports;
+mod files;
 mod records;
 mod refusal;
 #[cfg(test)]
 mod tests;
 
 pub use calls::{Table, prefix_factor};
+pub use files::{Salvaged, salvage};
 pub use records::{Candidate, Exponent, Factor, Kind, List, Multiple, Prefix, Quantity, Reduced, Row};
 pub use refusal::Refusal;

@@ -1,4 +1,4 @@
-// The eleven refusals, with the numbers that the library has for them.
+// The twelve refusals, with the numbers that the library has for them.
 use std::fmt;
 
 /// Why a call has no answer.
@@ -11,7 +11,7 @@ pub enum Refusal {
     Shape = 2,
     /// A list names a row that isn't there.
     Unknown = 3,
-    /// A product or a quotient has over 16 factors before merging.
+    /// A product or a quotient has over 16 factors before merging; or a file has no room.
     Room = 4,
     /// An exponent leaves its range.
     Range = 5,
@@ -27,11 +27,13 @@ pub enum Refusal {
     NonWhole = 10,
     /// A comparison with a NaN, or a NaN after conversion.
     Nan = 11,
+    /// A table file breaks the rules of its form, or has more rows than places are lent.
+    Format = 12,
 }
 
 impl Refusal {
     /// All of them, in the order of their numbers.
-    pub const ALL: [Refusal; 11] = [
+    pub const ALL: [Refusal; 12] = [
         Refusal::Table,
         Refusal::Shape,
         Refusal::Unknown,
@@ -43,14 +45,15 @@ impl Refusal {
         Refusal::ZeroNeg,
         Refusal::NonWhole,
         Refusal::Nan,
+        Refusal::Format,
     ];
 
-    /// The refusal's number, 1 to 11.
+    /// The refusal's number, 1 to 12.
     pub const fn number(self) -> u32 {
         self as u32
     }
 
-    /// The refusal of a number; 0 and numbers above 11 are none.
+    /// The refusal of a number; 0 and numbers above 12 are none.
     pub fn of(number: u32) -> Option<Refusal> {
         Refusal::ALL.get((number as usize).wrapping_sub(1)).copied()
     }
@@ -69,6 +72,7 @@ impl Refusal {
             Refusal::ZeroNeg => "ZERONEG",
             Refusal::NonWhole => "NONWHOLE",
             Refusal::Nan => "NAN",
+            Refusal::Format => "FORMAT",
         }
     }
 }

@@ -1,17 +1,20 @@
-// Faults put into a request that was in order, so that every refusal of 01 is met.
+// Faults put into a request that was in order, so that every refusal is met.
 use wire::records::{Exponent, Factor, List};
 
+use crate::files;
 use crate::random::Random;
 use crate::requests::{Draft, Part};
 
 /// One fault in the table or in one of the parts.
 pub fn put(random: &mut Random, draft: &mut Draft) {
-    if random.percent(35) && draft.code != 1 {
+    if random.percent(35) && draft.has_table() {
         table_fault(random, draft);
         return;
     }
     let at = random.below(draft.parts.len());
     match &mut draft.parts[at] {
+        Part::File(file) => *file = files::damaged(random, &draft.made.rows).2,
+        Part::Lent(n) => *n = random.below(*n as usize + 1) as u32,
         Part::Prefix(p) => p.n = random.pick(&[1101, -1101, i32::MIN, i32::MAX]),
         Part::Exponent(e) => *e = bad_exponent(random),
         Part::List(l) => list_fault(random, l),

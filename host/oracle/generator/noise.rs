@@ -43,6 +43,8 @@ fn right_length(random: &mut Random, kind: Kind) -> usize {
         Kind::Prefix => PREFIX,
         Kind::Exponent => EXPONENT,
         Kind::List => LIST,
+        Kind::File => random.below(300),
+        Kind::Lent => 4,
         _ => QUANTITY,
     }
 }

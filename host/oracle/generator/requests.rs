@@ -4,6 +4,7 @@ use wire::bytes::*;
 use wire::records::{Candidate, Exponent, Factor, List, Quantity, bits_of};
 use wire::stream::Request;
 
+use crate::files;
 use crate::lists::{self, fraction_exponent, raised, whole_exponent};
 use crate::random::Random;
 use crate::rewriting::{exchanged, rewritten};
@@ -25,6 +26,8 @@ pub enum Part {
     List(List),
     Quantity(Quantity),
     Candidates(Vec<Candidate>),
+    File(Vec<u8>),
+    Lent(u32),
 }
 
 pub fn draft(random: &mut Random, code: u32, limit: usize) -> Draft {
@@ -43,18 +46,29 @@ pub fn draft(random: &mut Random, code: u32, limit: usize) -> Draft {
         14 => power(random, &made),
         20 => multiple(random, &made),
         22 => with_candidates(random, &made),
+        24 => vec![Part::Lent(files::room(random, file(&made).len()))],
+        25 | 26 => vec![Part::File(file(&made)), Part::Lent(files::places(random, made.rows.len()))],
         _ => vec![Part::Quantity(quantity(random, &made))],
     };
     Draft { code, made, parts }
 }
 
+/// The file of the table, which is in order.
+fn file(made: &Made) -> Vec<u8> {
+    scope::files::file(&made.rows)
+}
+
 impl Draft {
+    pub fn has_table(&self) -> bool {
+        ![1, 25, 26].contains(&self.code)
+    }
+
     pub fn request(&self) -> Request {
         let table = self.made.rows.iter().fold(Vec::new(), |mut out, row| {
             put_row(&mut out, row);
             out
         });
-        let first = (self.code != 1).then_some(table);
+        let first = self.has_table().then_some(table);
         Request { code: self.code, arguments: first.into_iter().chain(self.parts.iter().map(part_bytes)).collect() }
     }
 }
@@ -67,6 +81,8 @@ fn part_bytes(part: &Part) -> Vec<u8> {
         Part::List(l) => put_list(&mut out, l),
         Part::Quantity(q) => put_quantity(&mut out, q),
         Part::Candidates(all) => all.iter().for_each(|c| put_candidate(&mut out, c)),
+        Part::File(file) => out.extend(file),
+        Part::Lent(n) => put_u32(&mut out, *n),
     }
     out
 }

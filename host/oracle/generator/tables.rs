@@ -55,7 +55,7 @@ pub fn table(random: &mut Random, limit: usize) -> Made {
     }
 }
 
-fn base_row(rank: u16) -> Row {
+pub fn base_row(rank: u16) -> Row {
     Row { rank, kind: 0, len: 0, bits: 0, def: Vec::new() }
 }
 
@@ -72,7 +72,8 @@ pub fn unused_rank(random: &mut Random, rows: &[Row]) -> u16 {
     }
 }
 
-fn random_table(random: &mut Random, rows: usize) -> Made {
+/// So many random rows.
+pub fn random_table(random: &mut Random, rows: usize) -> Made {
     let most_bases = if random.percent(5) { 16 } else { 5 };
     let first = unused_rank(random, &[]);
     let mut so_far = made(vec![base_row(first)]).expect("a base row is admitted");

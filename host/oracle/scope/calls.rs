@@ -1,5 +1,6 @@
-// Every call from a request to its answer by 01's rules.
-use wire::bytes::{put_exponent, put_list, put_quantity, put_u32, put_u64};
+// Every call from a request to its answer by 01's rules and 02's.
+use wire::bytes::{lent, put_exponent, put_list, put_quantity, put_u32, put_u64};
+use wire::calls::FILES;
 use wire::records::{self, bits_of};
 use wire::refusals::DIVZERO;
 use wire::stream::{Answer, Request};
@@ -9,6 +10,7 @@ use crate::arguments::{self, Arguments};
 use crate::canonical::{canonical, same};
 use crate::conversion::converted;
 use crate::domain::number;
+use crate::files;
 use crate::fractions::{Fraction, ZERO};
 use crate::lists::{Part, joined, negated, power, with_room, written};
 use crate::multiples::is_multiple_of;
@@ -29,6 +31,9 @@ pub fn given(request: &Request) -> Checked<Vec<u8>> {
     if request.code == 1 {
         let prefix = arguments::prefix(request)?;
         return Ok(bytes(|out| put_u64(out, bits_of(prefix_factor(prefix)))));
+    }
+    if FILES.contains(&request.code) {
+        return on_files(request);
     }
     let mut a = arguments::of(request)?;
     match request.code {
@@ -63,6 +68,19 @@ fn multiple_bytes(multiple: Option<Fraction>) -> Vec<u8> {
         put_u32(out, multiple.is_some() as u32);
         put_exponent(out, multiple.unwrap_or(ZERO).exponent());
     })
+}
+
+fn on_files(request: &Request) -> Checked<Vec<u8>> {
+    let [first, second] = &request.arguments[..] else { unreachable!("a call has its arguments") };
+    let lent = lent(second) as usize;
+    match request.code {
+        24 => files::write(first, lent).map(|file| files::written_bytes(&file)),
+        25 => files::read(first, lent).map(|rows| files::rows_bytes(&rows, 0)),
+        _ => {
+            let kept = files::salvage(first, lent);
+            Ok(files::rows_bytes(&kept.rows, kept.byte as u32))
+        }
+    }
 }
 
 fn on_lists(code: u32, a: &mut Arguments) -> Checked<Vec<u8>> {

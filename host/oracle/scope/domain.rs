@@ -1,11 +1,11 @@
-// Which requests lie outside the equality domain: those at which 01 answers what it adds to the Rust.
+// Which requests lie outside the equality domain: those at which 01 answers what it adds to the Rust, and the calls of 02.
 use wire::refusals::*;
 use wire::stream::Request;
 
 use crate::calls::given;
 use crate::{arguments, lists};
 use wire::bytes;
-use wire::calls::{Kind, of_code};
+use wire::calls::{FILES, Kind, of_code};
 
 /// NONWHOLE for a fraction, which 01 adds; for a NaN and the infinities the Rust refuses too.
 pub const NONWHOLE_FRACTION: u32 = 0x100 + NONWHOLE;
@@ -20,6 +20,9 @@ pub fn number(refusal: u32) -> u32 {
 
 /// The number that says why a request lies outside, or None if the Rust is to answer it.
 pub fn outside(request: &Request) -> Option<u32> {
+    if FILES.contains(&request.code) {
+        return Some(OUTSIDE);
+    }
     match given(request) {
         Err(TABLE | SHAPE | UNKNOWN | ROOM | NONWHOLE_FRACTION) => Some(OUTSIDE),
         Err(RANGE) => Some(OUTSIDE_RANGE),

@@ -1,4 +1,4 @@
-// 01's rules as a plain program, written from the document and its readings and not from the Rust.
+// 01's rules, and 02's as they land, as a plain program, written from the document and its readings and not from the Rust.
 //
 // The oracle asks it which requests lie outside the equality domain; compared with the Rust's answers it also shows
 // where the Rust and the document part. It is slow and short on purpose, and shares nothing with the proved library.
@@ -7,6 +7,7 @@ pub mod calls;
 pub mod canonical;
 pub mod conversion;
 pub mod domain;
+pub mod files;
 pub mod fractions;
 pub mod lists;
 pub mod multiples;

@@ -7,7 +7,7 @@ use crate::fractions::{LIMIT, ONE, gcd};
 use crate::lists::{Part, shaped};
 use crate::reduction::{Exponents, base_exponents, scale};
 
-const ROWS: usize = 128;
+pub const ROWS: usize = 128;
 const BASE_ROWS: usize = 16;
 
 /// A key: base ranks with whole numbers.
@@ -40,7 +40,8 @@ pub fn admitted(rows: Option<Vec<Row>>) -> Checked<Table> {
     Ok(Table { rows: known })
 }
 
-fn admitted_row(known: &[Known], row: &Row) -> Checked<Known> {
+/// A row behind those that are known.
+pub fn admitted_row(known: &[Known], row: &Row) -> Checked<Known> {
     if faulty(known, row) {
         return Err(TABLE);
     }

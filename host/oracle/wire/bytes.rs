@@ -60,6 +60,11 @@ pub fn candidates(b: &[u8]) -> Option<Vec<Candidate>> {
     b.len().is_multiple_of(CANDIDATE).then(|| b.chunks_exact(CANDIDATE).map(one).collect())
 }
 
+/// Room or places; a wrong length reads as 0.
+pub fn lent(b: &[u8]) -> u32 {
+    if b.len() == 4 { u32_at(b, 0) } else { 0 }
+}
+
 pub fn put_u32(out: &mut Vec<u8>, n: u32) {
     out.extend(n.to_le_bytes());
 }

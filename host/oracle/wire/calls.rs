@@ -7,11 +7,19 @@ pub enum Kind {
     List,
     Quantity,
     Candidates,
+    /// Any bytes, taken as a table file.
+    File,
+    /// A number alone: how many bytes are lent for a file, or how many rows.
+    Lent,
     Value,
     YesNo,
     Order,
     Multiple,
     Reduced,
+    /// Two numbers, then a file's bytes or rows.
+    Written,
+    Read,
+    Salvaged,
 }
 
 use Kind::*;
@@ -27,7 +35,7 @@ const fn call(name: &'static str, arguments: &'static [Kind], answer: Kind) -> C
 }
 
 /// Code 1 is the first entry.
-const CALLS: [Call; 23] = [
+const CALLS: [Call; 26] = [
     call("prefix_factor", &[Prefix], Value),
     call("product", &[Table, List, List], List),
     call("quotient", &[Table, List, List], List),
@@ -51,9 +59,14 @@ const CALLS: [Call; 23] = [
     call("full_simplify", &[Table, Quantity], Quantity),
     call("full_simplify_with", &[Table, Quantity, Candidates], Quantity),
     call("no_simplify", &[Table, Quantity], Quantity),
+    call("write_table", &[Table, Lent], Written),
+    call("read_table", &[File, Lent], Read),
+    call("salvage_table", &[File, Lent], Salvaged),
 ];
 
-pub const CODES: std::ops::RangeInclusive<u32> = 1..=23;
+pub const CODES: std::ops::RangeInclusive<u32> = 1..=26;
+/// The calls that write and read a table file; numbat has none like them.
+pub const FILES: std::ops::RangeInclusive<u32> = 24..=26;
 
 pub fn of_code(code: u32) -> Option<&'static Call> {
     CALLS.get((code as usize).wrapping_sub(1))

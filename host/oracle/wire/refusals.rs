@@ -1,4 +1,4 @@
-// 01's refusal numbers, and the numbers by which the oracle says that a request lies outside the equality domain.
+// 01's refusal numbers and 02's, and the numbers by which the oracle says that a request lies outside the equality domain.
 pub const TABLE: u32 = 1;
 pub const SHAPE: u32 = 2;
 pub const UNKNOWN: u32 = 3;
@@ -10,6 +10,7 @@ pub const DIVZERO: u32 = 8;
 pub const ZERONEG: u32 = 9;
 pub const NONWHOLE: u32 = 10;
 pub const NAN: u32 = 11;
+pub const FORMAT: u32 = 12;
 
 /// Ends a stream that cannot be read on.
 pub const END: u32 = 0xffff_ffff;
@@ -29,12 +30,12 @@ pub fn is_outside(number: u32) -> bool {
 }
 
 pub fn name(number: u32) -> String {
-    const NAMES: [&str; 12] = [
+    const NAMES: [&str; 13] = [
         "answered", "TABLE", "SHAPE", "UNKNOWN", "ROOM", "RANGE", "UNITS", "FRACTION", "DIVZERO", "ZERONEG",
-        "NONWHOLE", "NAN",
+        "NONWHOLE", "NAN", "FORMAT",
     ];
     match number {
-        0..=11 => NAMES[number as usize].to_string(),
+        0..=FORMAT => NAMES[number as usize].to_string(),
         OUTSIDE => "outside".to_string(),
         OUTSIDE_FRACTION => "outside: FRACTION".to_string(),
         OUTSIDE_RANGE => "outside: RANGE".to_string(),

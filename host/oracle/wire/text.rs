@@ -65,6 +65,20 @@ fn candidates(b: &[u8]) -> String {
     }
 }
 
+/// At most so many bytes of a file are shown.
+const SHOWN: usize = 600;
+
+fn file(b: &[u8]) -> String {
+    let shown: Vec<String> = b.iter().take(SHOWN).map(|byte| format!("{byte:02x}")).collect();
+    let more = if b.len() > SHOWN { " .." } else { "" };
+    format!("file of {} bytes: {}{more}", b.len(), shown.join(" "))
+}
+
+/// What stands behind the head's two numbers, and these.
+fn headed(b: &[u8], show: impl Fn(u32, u32, &[u8]) -> String) -> Option<String> {
+    (b.len() >= 8).then(|| show(u32_at(b, 0), u32_at(b, 4), &b[8..]))
+}
+
 fn order(n: u32) -> String {
     ["less", "equal", "greater"].get(n as usize).unwrap_or(&"no order").to_string()
 }
@@ -89,6 +103,11 @@ pub fn part(kind: Kind, b: &[u8]) -> String {
         Kind::YesNo => (b.len() == 4).then(|| if u32_at(b, 0) == 0 { "no" } else { "yes" }.to_string()),
         Kind::Order => (b.len() == 4).then(|| order(u32_at(b, 0))),
         Kind::Multiple => (b.len() == 12).then(|| multiple(b)),
+        Kind::File => Some(file(b)),
+        Kind::Lent => Some(format!("{} lent", bytes::lent(b))),
+        Kind::Written => headed(b, |length, _, rest| format!("{length}: {}", file(rest))),
+        Kind::Read => headed(b, |rows, _, rest| format!("{rows}: {}", table(rest))),
+        Kind::Salvaged => headed(b, |rows, byte, rest| format!("{rows} kept, byte {byte}: {}", table(rest))),
         Kind::Reduced => {
             (b.len() == 332).then(|| format!("{} {}", value(u64_at(b, 0)), list(&bytes::list(&b[8..]).unwrap())))
         }

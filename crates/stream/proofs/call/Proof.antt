@@ -1,6 +1,6 @@
 -- `call` meets its contract: a kind that has no call of this code leaves it to the next.
 use borrow.Author.Needs.{needs}
-use Rattle.stream.proofs.Codes.{of-lists, of-values, of-simplify}
+use Rattle.stream.proofs.Codes.{of-lists, of-values, of-simplify, of-files}
 use Rattle.stream.proofs.call.Statement.{statement}
 use Rattle.stream.proofs.call.Tie as tie
 
@@ -33,6 +33,9 @@ returns-2 c =
     let k = h .before .before in
     rw (of-values _ _ (k .before .arity .ensures .0) (k .if1 .left) _ (h .before .arity2 .ensures .0) (h .if2 .taken)) (c .before .before .call2 .ensures)
 
+arity-requires-3 : tie.Need-arity-requires-3
+arity-requires-3 c κs = search needs
+
 call-requires-3 : tie.Need-call-requires-3
 call-requires-3 c κs = search needs
 
@@ -43,7 +46,21 @@ returns-3 : tie.Need-returns-3
 returns-3 c =
     let h = c .before .before .before .before in
     let k = h .before .before in
-    rw (of-simplify _ _ (k .before .arity .ensures .0) (k .if1 .left) _ (h .before .arity2 .ensures .0) (h .if2 .left)) (c .before .before .call3 .ensures)
+    let j = k .before .before in
+    rw (of-simplify _ _ (j .before .arity .ensures .0) (j .if1 .left) _ (k .before .arity2 .ensures .0) (k .if2 .left) _ (h .before .arity3 .ensures .0) (h .if3 .taken)) (c .before .before .call3 .ensures)
+
+call-requires-4 : tie.Need-call-requires-4
+call-requires-4 c κs = search needs
+
+same-length-4 : tie.Need-same-length-4
+same-length-4 c = search needs
+
+returns-4 : tie.Need-returns-4
+returns-4 c =
+    let h = c .before .before .before .before in
+    let k = h .before .before in
+    let j = k .before .before in
+    rw (of-files _ _ (j .before .arity .ensures .0) (j .if1 .left) _ (k .before .arity2 .ensures .0) (k .if2 .left) _ (h .before .arity3 .ensures .0) (h .if3 .left)) (c .before .before .call4 .ensures)
 
 pub call-spec : {M : Type 1} → statement M
 call-spec =
@@ -57,6 +74,10 @@ call-spec =
     call-requires-2
     same-length-2
     returns-2
+    arity-requires-3
     call-requires-3
     same-length-3
-    returns-3)
+    returns-3
+    call-requires-4
+    same-length-4
+    returns-4)

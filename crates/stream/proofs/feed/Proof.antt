@@ -4,6 +4,7 @@ use mathlib.Core.Path.{_≡_, refl, sym, _∙_}
 use Prim.Native.Nat.{_+_, _-_, _≤_}
 use native.Mathlib.Omega.{arith}
 use lib.ListN.{length}
+use Rattle.stream.specs.Stream.{place}
 use Rattle.stream.proofs.Answering.{Answered, none-answered, one-answered, next-short, next-is, goes-on, stops}
 use Rattle.stream.proofs.feed.Statement.{statement}
 use Rattle.stream.proofs.feed.Tie as tie
@@ -57,7 +58,7 @@ returns c =
 
 -- past the test
 on : (c : lts.Else1 (read-u32-reads.Asked, read-u32-reads.Learnt, framed-reads.Asked, framed-reads.Learnt, one-reads.Asked, one-reads.Learnt) reads.Pre reads.Post Inv-loop μ-loop)
-    → (c .before .before .before .before .before .loop .at + 4 ≤ c .before .before .framed .result .to) × (c .before .before .framed .result .to ≤ length (c .before .before .before .before .before .before .before .before .args .inp .now)) × (344 ≤ length (c .before .before .before .before .before .loop .out) - c .before .before .before .before .before .loop .o) × (c .before .before .framed .result .kind ≡ 0)
+    → (c .before .before .before .before .before .loop .at + 4 ≤ c .before .before .framed .result .to) × (c .before .before .framed .result .to ≤ length (c .before .before .before .before .before .before .before .before .args .inp .now)) × (place ≤ length (c .before .before .before .before .before .loop .out) - c .before .before .before .before .before .loop .o) × (c .before .before .framed .result .kind ≡ 0)
 on c = goes-on _ _ _ _ _ (omega arith) (c .before .before .framed .ensures) (c .if1 .left)
 
 sub-one : tie.Need-sub-one Inv-loop μ-loop

@@ -1,5 +1,6 @@
-// The wrapper's tests, each over the archive: the bench list, the limits, the refusals, the bytes.
+// The wrapper's tests, each over the archive: the bench list, table files, the limits, the refusals, the bytes.
 mod bench;
+mod files;
 mod layout;
 mod limits;
 mod refusals;

@@ -1,4 +1,4 @@
-// Each of the eleven refusals, and their numbers.
+// Each of the twelve refusals, and their numbers.
 use super::*;
 use crate::{Refusal, prefix_factor};
 
@@ -28,6 +28,11 @@ fn of_quantities() {
 }
 
 #[test]
+fn of_files() {
+    assert_eq!(Table::from_file(&[]), Err(Refusal::Format));
+}
+
+#[test]
 fn the_table_comes_before_the_arguments() {
     let broken = Table::new(&[Row::base(1), Row::base(1)]);
     assert_eq!(broken.product(&one(200), &one(200)), Err(Refusal::Table));
@@ -43,5 +48,5 @@ fn numbers_and_names() {
         assert_eq!(Refusal::of(refusal.number()), Some(refusal));
         assert_eq!(format!("{refusal:?}").to_uppercase(), refusal.name());
     }
-    assert_eq!((Refusal::of(0), Refusal::of(12), Refusal::of(u32::MAX)), (None, None, None));
+    assert_eq!((Refusal::of(0), Refusal::of(13), Refusal::of(u32::MAX)), (None, None, None));
 }

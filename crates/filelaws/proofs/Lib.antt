@@ -1,0 +1,9 @@
+pub mod Growing
+pub mod Cuts
+pub mod Beginnings
+pub mod Admitted
+pub mod Words
+pub mod Lengths
+pub mod Longest
+pub mod Cleaned
+pub mod Spans
