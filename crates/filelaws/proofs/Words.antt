@@ -35,7 +35,7 @@ use Rattle.filelaws.proofs.Admitted.{all-both, KindKept, Kept, kept-sou
 
 -- ---- the numbers of a factor
 
-num-least : (z : ℤ) → natAbs z ≤ most → mag z < 2147483648
+pub num-least : (z : ℤ) → natAbs z ≤ most → mag z < 2147483648
 num-least (pos n) h = omega arith
 num-least (negsuc n) h = omega arith
 

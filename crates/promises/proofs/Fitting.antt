@@ -4,19 +4,15 @@ use mathlib.Core.Bool.{Bool, true, false}
 use mathlib.Core.List.{List, _++_, map as along}
 use Prim.Native.Nat.{ℕ, _≤_, _<_}
 use native.Mathlib.Omega.{arith}
-use borrow.Author.Tests.{ltb-false}
 use lib.Dec.{eqb}
-use lib.IntN.{ℤ, pos, negsuc, natAbs}
-use lib.Signed.{mag, ltZ}
 use lib.Ieee.{Float, binary64, neg}
 use lib.Ieee.Fits as ieee
 use lib.ListN.{length}
 use Rattle.exponents.specs.Words.{pick}
 use Rattle.exponents.specs.Outcome.{Outcome, given, DIVZERO, ZERONEG, apply}
-use Rattle.exponents.specs.Fractions.{most}
 use Rattle.exponents.specs.declared.Exponent.{Exponent}
 use Rattle.exponents.proofs.Holds.{holds-all, Holds, held, holds-any, holds-imp, holds-both, holds-unless, holds-map, holds-bind}
-use Rattle.exponents.proofs.InRange.{InRange, or-left, sound}
+use Rattle.exponents.proofs.InRange.{InRange, sound}
 use Rattle.floats.specs.Values.{isZero}
 use Rattle.floats.proofs.Laws as floats
 use Rattle.floats.proofs.Patterns.{bits-fit}
@@ -25,10 +21,9 @@ use Rattle.units.specs.declared.Candidates.{Candidates}
 use Rattle.units.specs.declared.Factor.{Factor}
 use Rattle.units.specs.declared.Factors.{Factors}
 use Rattle.units.specs.declared.Prefix.{Prefix}
-use Rattle.units.specs.declared.Prefix.the-variants.{Metric, Binary}
 use Rattle.units.specs.declared.Quantity.{Quantity}
 use Rattle.units.specs.declared.Rows.{Rows}
-use Rattle.units.specs.Prefixes.{numberFault, prefixFault}
+use Rattle.units.specs.Prefixes.{prefixFault}
 use Rattle.units.specs.Lists.{pack, inverted}
 use Rattle.tables.specs.Rows.{Facts, baseRows}
 use Rattle.tables.specs.Rules.{Rules, rulesIn}
@@ -51,30 +46,22 @@ use Rattle.simplification.specs.Calls as simplification
 use Rattle.simplification.proofs.Sounding.{simplify-within}
 use Rattle.registry.specs.Calls as registry
 use Rattle.registry.proofs.Upheld.{candidates-all, registered-any}
-use Rattle.wire.specs.Records.{quantityAt, quantityBytes}
+use Rattle.wire.specs.Records.{prefixNumber, quantityAt, quantityBytes}
 use Rattle.wire.specs.Arguments.{badQuantity, quantityFrom}
 use Rattle.wire.proofs.Round.{ExponentFits, PrefixFits, FactorFits, ListFits, QuantityFits, quantity-form}
 use Rattle.wire.proofs.Back.{pack-fits}
 use Rattle.replies.proofs.Back.{MultipleFits}
+use Rattle.filelaws.proofs.Words.{num-least, prefix-least}
 use Rattle.promises.proofs.Bounded.{Bounded, Bounds, still-bounded, joined-bounds, inverted-bounded, raised-bounds, checked-bounds, reduced-bounds, of-one, of-two, product-bounds, quotient-bounds, power-bounds, canonical-bounds, reduction-bounds, smaller-bounds, listed-bounds}
 use Rattle.promises.proofs.Rounded.{ValueFits, combined-value, scale-value, convert-value, simplify-value}
 
 -- ---- a factor whose numbers are in range
 
-num-small : (z : ℤ) → natAbs z ≤ most → mag z < 2147483648
-num-small (pos n) h = omega arith
-num-small (negsuc n) h = omega arith
-
 exponent-fits : (e : Exponent) → InRange e → ExponentFits e
-exponent-fits e h = record { num = num-small (e .num) (h .numerator); den = omega (arith, h .denominator) }
-
-number-small : (z : ℤ) → numberFault z ≡ false → mag z < 2147483648
-number-small (pos n) h = omega (arith, ltb-false 1100 n h)
-number-small (negsuc n) h = omega (arith, ltb-false 1099 n (or-left (ltZ (negsuc n) (negsuc 1099)) (ltZ (pos 1100) (negsuc n)) h))
+exponent-fits e h = record { num = num-least (e .num) (h .numerator); den = omega (arith, h .denominator) }
 
 prefix-fits : (p : Prefix) → prefixFault p ≡ false → PrefixFits p
-prefix-fits (Metric n) h = record { number = number-small n h }
-prefix-fits (Binary n) h = record { number = number-small n h }
+prefix-fits p h = record { number = num-least (prefixNumber p) (omega (arith, prefix-least p h)) }
 
 pub factor-fits : (f : Factor) → Bounded f → FactorFits f
 factor-fits f b = record { row = omega (arith, b .row); prefix = prefix-fits (f .prefix) (b .prefix); exponent = exponent-fits (f .exponent) (b .exponent) }

@@ -4,14 +4,10 @@ use mathlib.Core.List.{List}
 use Prim.Native.Nat.{ℕ, _≤_}
 use native.Mathlib.Omega.{arith}
 use borrow.Author.Tests.{le-ltb}
-use lib.ListN.{length, drop, replicate, length-replicate}
+use lib.ListN.{length, drop}
 use Rattle.exponents.specs.Outcome.{Refusal, TABLE, SHAPE, UNKNOWN, ROOM, RANGE, UNITS, FRACTION, DIVZERO, ZERONEG, NONWHOLE, NAN, FORMAT, number, Outcome, given, refused, unless, apply, bind, refusalOf}
 use Rattle.exponents.proofs.Holds.{Holds, held}
 use Rattle.units.specs.declared.Quantity.{Quantity}
-use Rattle.units.specs.declared.Row.{Row}
-use Rattle.lent.specs.Lent.{noRow, lentRows}
-use Rattle.lent.proofs.Laws.{over-back}
-use Rattle.tables.specs.Rows.{rowsOf}
 use Rattle.values.specs.Quantities.{answeredOf}
 use Rattle.values.specs.declared.answers.Answer.{Answer}
 use Rattle.wire.specs.Records.{quantityBytes}
@@ -20,11 +16,6 @@ use Rattle.replies.specs.Replies.{sent, left}
 use Rattle.demsharin.specs.Exports.{Exported}
 use Rattle.promises.specs.Shipped.{named, heard, outcomeIn, outcomeFrom}
 use Rattle.promises.proofs.Fitting.{read-back}
-
--- ---- lent rows: a slice of at most 128 rows is the table's rows
-pub rows-back : (rs : List Row) → length rs ≤ 128 → rowsOf (lentRows rs) ≡ rs
-unfolding lentRows
-rows-back rs h = over-back rs (replicate 128 noRow) (omega (arith, length-replicate {A = Row} 128 noRow))
 
 -- ---- a number that is told is its refusal's
 

@@ -22,7 +22,7 @@ use Rattle.tables.specs.Held.{admittedOf}
 use Rattle.beginnings.specs.Beginnings.{admitting, before}
 use Rattle.filelaws.proofs.Admitted.{admitted-all}
 
--- ---- rows as a record
+-- ---- lent rows: a slice of at most 128 rows is the table's rows
 
 pub rows-back : (rs : List Row) → length rs ≤ 128 → rowsOf (lentRows rs) ≡ rs
 unfolding lentRows
