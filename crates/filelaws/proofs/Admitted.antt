@@ -9,7 +9,7 @@ use lib.Dec.{ltb, eqb}
 use lib.ListN.{length, getD, take}
 use Rattle.exponents.specs.Words.{All}
 use Rattle.exponents.specs.Outcome.{given}
-use Rattle.exponents.proofs.Each.{all-imp}
+use Rattle.exponents.proofs.Each.{all-imp, all-by, all-both}
 use Rattle.exponents.proofs.InRange.{or-left, or-right}
 use Rattle.floats.specs.Values.{isPositive}
 use Rattle.units.specs.declared.Factor.{Factor}
@@ -23,11 +23,6 @@ use Rattle.tables.proofs.Filled.{admit-rows, table-length, row-known, names-low
 use Rattle.tables.proofs.Terms.{nilRow}
 use Rattle.resolution.proofs.Keyed.{admits, admit-keyed}
 use Rattle.canonical.proofs.Keeping.{each-faultless}
-
--- what holds of each in two ways
-pub all-both : {A : Type 0} (P Q : A → Type 0) (l : List A) → All P l → All Q l → All (λ a. P a × Q a) l
-all-both P Q [] p q = tt
-all-both P Q (a ∷ l) p q = ((p .0, q .0), all-both P Q l (p .1) (q .1))
 
 -- ---- one row
 
@@ -89,10 +84,6 @@ admitted-rows t ks e =
       all = n;
       at = λ d i h. let k = row-known ss (rowsOf t) ks from d i h in kept-by (take i ks) i (getD (rowsOf t) i d) (k .table) (k .shape) (names-lower ss (rowsOf t) ks from d i h);
     }
-
-pub all-by : (P : Row → Type 0) (d : Row) (rs : List Row) → ((i : ℕ) → i < length rs → P (getD rs i d)) → All P rs
-all-by P d [] h = tt
-all-by P d (r ∷ rs) h = (h 0 (omega arith), all-by P d rs (λ i l. h (suc i) (omega arith)))
 
 pub admitted-all : (t : Rows) (ks : List Facts) → table t ≡ given ks → All (Kept 128) (rowsOf t)
 admitted-all t ks e = let a = admitted-rows t ks e in all-by (Kept 128) nilRow (rowsOf t) (λ i l. kept-more i 128 (getD (rowsOf t) i nilRow) (omega (arith, a .few)) (a .at nilRow i l))

@@ -12,7 +12,7 @@ use lib.IntN.{ℤ, pos, negsuc, natAbs}
 use lib.ListN.{length, getD, length-append, length-take}
 use Rattle.exponents.specs.Words.{pick, All}
 use Rattle.exponents.specs.Outcome.{given}
-use Rattle.exponents.proofs.Each.{all-imp}
+use Rattle.exponents.proofs.Each.{all-imp, all-both, all-by}
 use Rattle.exponents.proofs.Words.{pick-is}
 use Rattle.units.specs.declared.Prefix.{Prefix}
 use Rattle.units.specs.declared.Prefix.the-variants.{Metric, Binary}
@@ -30,7 +30,7 @@ use Rattle.wire.proofs.Digits.{length-bytesOf}
 use Rattle.groups.specs.Numbers.{groups, numberBytes, folded}
 use Rattle.groups.proofs.Groups.{number-short}
 use Rattle.files.specs.Records.{factorFile, kindFile, rowFile, tableFile}
-use Rattle.filelaws.proofs.Admitted.{all-both, Kept, kept-sound, kept-more, admitted-rows, all-by}
+use Rattle.filelaws.proofs.Admitted.{Kept, kept-sound, kept-more, admitted-rows}
 use Rattle.filelaws.proofs.Words.{prefix-kept}
 
 -- ---- numbers

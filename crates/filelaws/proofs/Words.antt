@@ -14,7 +14,7 @@ use lib.Seq.{length-take-le}
 use Rattle.exponents.specs.Words.{All}
 use Rattle.exponents.specs.Outcome.{given}
 use Rattle.exponents.specs.Fractions.{most, faulty}
-use Rattle.exponents.proofs.Each.{all-imp}
+use Rattle.exponents.proofs.Each.{all-imp, all-both}
 use Rattle.exponents.proofs.InRange.{InRange, or-left, sound}
 use Rattle.floats.specs.Values.{isPositive}
 use Rattle.units.specs.declared.Prefix.{Prefix}
@@ -31,7 +31,7 @@ use Rattle.tables.specs.Rows.{Facts, defOf, rowsOf, table}
 use Rattle.wire.specs.Records.{prefixNumber}
 use Rattle.wire.proofs.Round.{FactorFits}
 use Rattle.files.proofs.Forms.{KindFits, RowFits, Plain}
-use Rattle.filelaws.proofs.Admitted.{all-both, KindKept, Kept, kept-sound, admitted-all}
+use Rattle.filelaws.proofs.Admitted.{KindKept, Kept, kept-sound, admitted-all}
 
 -- ---- the numbers of a factor
 

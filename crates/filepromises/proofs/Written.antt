@@ -7,7 +7,7 @@ use lib.ListN.{length, take, drop, length-map, length-append, length-take, lengt
 use lib.Seq.{take-append-add}
 use Rattle.exponents.specs.Words.{All}
 use Rattle.exponents.specs.Outcome.{Outcome, given, refused, apply}
-use Rattle.exponents.proofs.Each.{all-imp}
+use Rattle.exponents.proofs.Each.{all-imp, all-both}
 use Rattle.units.specs.declared.Row.{Row}
 use Rattle.units.specs.declared.Rows.{Rows}
 use Rattle.lent.specs.Lent.{lentRows}
@@ -19,7 +19,7 @@ use Rattle.beginnings.proofs.Counted as beginnings
 use Rattle.groups.specs.Numbers.{numberBytes}
 use Rattle.files.specs.Records.{rowFile, cleaned, tableFile}
 use Rattle.files.proofs.Tables.{table-back}
-use Rattle.filelaws.proofs.Admitted.{all-both, Kept, admitted-rows, admitted-all}
+use Rattle.filelaws.proofs.Admitted.{Kept, admitted-rows, admitted-all}
 use Rattle.filelaws.proofs.Words.{Worded, admitted-fits}
 use Rattle.filelaws.proofs.Cleaned.{Alike, admit-alike, file-alike, cleaned-alike}
 use Rattle.filelaws.proofs.Cuts.{bytesTo, Whole, rows-cut, bytes-inside, count-cut, count-whole}

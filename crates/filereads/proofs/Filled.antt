@@ -14,6 +14,7 @@ use Rattle.units.specs.declared.Kind.the-variants.{Derived}
 use Rattle.units.specs.declared.Row.{Row}
 use Rattle.units.specs.Lists.{noFactor}
 use Rattle.wire.specs.Bytes.{le, padTo}
+use Rattle.wire.proofs.Runs.{pad-push}
 use Rattle.groups.specs.Taken.{Taken, nothing, taken, then, run?}
 use Rattle.groups.specs.Numbers.{upTo?}
 use Rattle.files.specs.Records.{factor?, eight?, baseRow, derived?, row?}
@@ -71,13 +72,6 @@ pub record Filled (s : List ℕ) (at n : ℕ) (a : List Factor) (p i : ℕ) : Ty
 pub filled-none : (s : List ℕ) (at n : ℕ) (a : List Factor) → at ≤ length s → a ≡ replicate 8 noFactor → Filled s at n a at 0
 unfolding padTo
 filled-none s at n a h e = record { held = []; count = refl; within = omega arith; places = e; inside = h; rest = rw (sub-zero n) (onto-nil (run? factor? n (drop at s))) }
-
-pad-push : {A : Type 0} (none : A) (m : ℕ) (l : List A) (a : A) → length l < m → set (padTo none m l) (length l) a ≡ padTo none m (l ++ (a ∷ []))
-unfolding padTo
-pad-push none m l a h =
-    let e : m - length l ≡ suc (m - suc (length l)) = omega arith in
-    let f : m - (length l + 1) ≡ m - suc (length l) = omega arith in
-    simp (e, set-append-seam, length-append, f, append-assoc)
 
 pub filled-on : (s : List ℕ) (at n : ℕ) (a : List Factor) (p i : ℕ) (f : Factor) (q : ℕ) → i < n → n ≤ 8 → Filled s at n a p i → Read factor? s p f q → Filled s at n (set a i f) q (i + 1)
 unfolding run? then

@@ -123,7 +123,7 @@ pub record TableOnly (places : ℕ) (rs : List Row) (s : List ℕ) : Type 0 wher
   pub room : length rs ≤ places
   pub count : length rs ≤ 4294967295
 
-nil : (s : List ℕ) → isNil s ≡ true → s ≡ []
+pub nil : (s : List ℕ) → isNil s ≡ true → s ≡ []
 nil [] e = refl
 nil (b ∷ s) e = let z : _≡_ {A = ℕ} 0 1 = cc in absurd (omega arith)
 

@@ -16,6 +16,7 @@ use Rattle.units.specs.declared.Row.{Row}
 use Rattle.units.specs.declared.Rows.{Rows}
 use Rattle.tables.specs.Rows.{defOf, rowsOf}
 use Rattle.exponents.specs.Words.{All}
+use Rattle.exponents.proofs.Each.{all-at}
 use Rattle.wire.specs.Bytes.{bytesOf, runBytes}
 use Rattle.wire.specs.Records.{prefixKind, prefixNumber}
 use Rattle.wire.proofs.Digits.{sets-append, length-bytesOf}
@@ -50,11 +51,11 @@ run-none bytes l i h = rw (drop-of-length-le l {i = i} h)
 
 -- so many bytes before place i of a run
 module _ {A : Type 0} (bytes : A → List ℕ) (l : List A) where
-  pub length-turn : (d : A) (i n m : ℕ) → i < length l → n + length (runBytes bytes (drop i l)) ≡ length (runBytes bytes l) → m ≡ length (bytes (getD l i d)) → n + m + length (runBytes bytes (drop (i + 1) l)) ≡ length (runBytes bytes l)
-  length-turn d i n m h e g = omega (arith, ap length (run-cons bytes l d i h), length-append (bytes (getD l i d)) (runBytes bytes (drop (i + 1) l)))
+  pub length-on : (d : A) (i n m w : ℕ) → i < length l → n + length (runBytes bytes (drop i l)) ≡ w → m ≡ length (bytes (getD l i d)) → n + m + length (runBytes bytes (drop (i + 1) l)) ≡ w
+  length-on d i n m w h e g = omega (arith, ap length (run-cons bytes l d i h), length-append (bytes (getD l i d)) (runBytes bytes (drop (i + 1) l)))
 
-  pub length-end : (i n : ℕ) → length l ≤ i → n + length (runBytes bytes (drop i l)) ≡ length (runBytes bytes l) → n ≡ length (runBytes bytes l)
-  length-end i n h e = omega (arith, ap length (run-none bytes l i h))
+  pub length-done : (i n w : ℕ) → length l ≤ i → n + length (runBytes bytes (drop i l)) ≡ w → n ≡ w
+  length-done i n w h e = omega (arith, ap length (run-none bytes l i h))
 
   -- stored from place p on
   pub record Storing (out₀ : List ℕ) (at : ℕ) (out : List ℕ) (p i : ℕ) : Type 0 where
@@ -127,23 +128,12 @@ rows-long t e h = length-take-le (t .len) (t .at) (omega arith)
 pub rows-at : (t : Rows) (i : ℕ) (d : Row) → i < t .len → getD (t .at) i d ≡ getD (rowsOf t) i d
 rows-at t i d h = sym (getD-take (t .len) (t .at) i d h)
 
-pub all-at : {A : Type 0} (P : A → Type 0) (l : List A) (i : ℕ) (d : A) → i < length l → All P l → P (getD l i d)
-all-at P [] i d h a = absurd (omega arith)
-all-at P (x ∷ l) zero d h a = a .0
-all-at P (x ∷ l) (suc i) d h a = all-at P l i d (omega arith) (a .1)
-
 pub row-short : (t : Rows) (i : ℕ) (d : Row) → i < t .len → length (rowsOf t) ≡ t .len → All (λ r. r .len ≤ 8) (rowsOf t) → getD (t .at) i d .len ≤ 8
 row-short t i d h e a = subst (λ r. r .len ≤ 8) (sym (rows-at t i d h)) (all-at (λ r. r .len ≤ 8) (rowsOf t) i d (omega arith) a)
 
 pub table-length : (t : Rows) → length (rowsOf t) ≡ t .len → length (tableFile (rowsOf t)) ≡ length (numberBytes (t .len)) + length (runBytes rowFile (rowsOf t))
 unfolding tableFile
 table-length t e = length-append (numberBytes (length (rowsOf t))) (runBytes rowFile (rowsOf t)) ∙ ap (λ n. length (numberBytes n) + length (runBytes rowFile (rowsOf t))) e
-
-pub length-on : {A : Type 0} (bytes : A → List ℕ) (l : List A) (d : A) (i n m w : ℕ) → i < length l → n + length (runBytes bytes (drop i l)) ≡ w → m ≡ length (bytes (getD l i d)) → n + m + length (runBytes bytes (drop (i + 1) l)) ≡ w
-length-on bytes l d i n m w h e g = omega (arith, ap length (run-cons bytes l d i h), length-append (bytes (getD l i d)) (runBytes bytes (drop (i + 1) l)))
-
-pub length-done : {A : Type 0} (bytes : A → List ℕ) (l : List A) (i n w : ℕ) → length l ≤ i → n + length (runBytes bytes (drop i l)) ≡ w → n ≡ w
-length-done bytes l i n w h e = omega (arith, ap length (run-none bytes l i h))
 
 pub table-written : (t : Rows) (l l₁ l₂ : List ℕ) (p : ℕ) → length (rowsOf t) ≡ t .len → l₁ ≡ sets l 0 (numberBytes (t .len)) → p ≡ 0 + length (numberBytes (t .len)) → l₂ ≡ sets l₁ p (runBytes rowFile (rowsOf t))
     → l₂ ≡ sets l 0 (tableFile (rowsOf t))

@@ -22,13 +22,12 @@ use Rattle.exponents.specs.Words.{pick, All}
 use Rattle.tables.specs.Rows.{Facts, nobody, expAt, places, selfExp, rowsOf, admitted, admit, baseRows}
 use Rattle.tables.specs.Rules.{rulesIn}
 use Rattle.tables.specs.Held.{noSlot}
-use Rattle.exponents.proofs.Each.{Along, next, all-imp, along-length}
+use Rattle.exponents.proofs.Each.{all-at, Along, next, all-imp, along-length}
 use Rattle.tables.proofs.Filled.{admit-rows, base-exps}
 use Rattle.tables.proofs.Terms.{get-map, long-bases, nilRow}
 use Rattle.canonical.proofs.Algebra.{exact, nonzero-exact}
 use Rattle.canonical.proofs.Bases.{Agree, Exactly, base-exact}
 use Rattle.reduction.specs.Reduction.{baseFactors, reduced}
-use Rattle.registry.proofs.GivenLists.{all-at}
 use Rattle.registry.proofs.BaseSlots.{Other, Apart, slots-apart, slots-base}
 
 -- ---- base factors at the base row u: where b counts 1 at u itself, 0 at the others

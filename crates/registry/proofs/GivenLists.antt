@@ -19,17 +19,13 @@ use Rattle.units.specs.declared.Candidates.{Candidates}
 use Rattle.units.specs.Lists.{listOf, some, factorFault, checked}
 use Rattle.units.proofs.Laws.{listed as long-list}
 use Rattle.units.proofs.Checked.{short as list-short, no-fault, passes}
-use Rattle.exponents.proofs.Each.{Along, done, next, along-length}
+use Rattle.exponents.proofs.Each.{all-at, Along, done, next, along-length}
 use Rattle.exponents.specs.Words.{All}
 use Rattle.exponents.proofs.Places.{rest}
-use Rattle.targets.proofs.Grouping.{all-drop}
 use Rattle.simplification.proofs.Sounding.{Passes, row-known, checked-passed}
 use Rattle.registry.specs.Registry.{listsFrom, candidateLists}
 
--- ---- what holds of each, at a place
-pub all-at : {A : Type 0} (P : A → Type 0) (l : List A) (i : ℕ) (d : A) → i < length l → All P l → P (getD l i d)
-all-at P l i d h a = subst (All P) (rest l d i h) (all-drop P i l a) .0
-
+-- ---- what stands along each, at a place
 along-at : {A B : Type 0} {R : A → B → Type 0} {l : List A} {m : List B} → Along R l m → (i : ℕ) (d : A) (e : B) → i < length l → R (getD l i d) (getD m i e)
 along-at done i d e h = absurd (omega arith)
 along-at (next r a) zero d e h = r

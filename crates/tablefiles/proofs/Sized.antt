@@ -24,6 +24,7 @@ use Rattle.groups.specs.Numbers.{numberBytes, upTo?, number?}
 use Rattle.groups.proofs.Behind.{Then, first, parted, met}
 use Rattle.groups.proofs.Steps.{up-bound}
 use Rattle.files.specs.Records.{factor?, rowFile, tableFile, eight?, baseRow, derivedRow, derived?, row?, isNil, table?, frontOn, front}
+use Rattle.files.proofs.Tables.{nil}
 use Rattle.files.proofs.Fronts.{front-all, front-some}
 use Rattle.filereads.proofs.Filled.{run-count}
 use Rattle.filelaws.proofs.Beginnings.{front-bound}
@@ -65,10 +66,6 @@ pub counted : (places : ℕ) (s : List ℕ) (rs : List Row) (t : List ℕ) → t
 unfolding table?
 counted places s rs t e = go (parted (number? s) _ rs t e)
   where
-    nil : (u : List ℕ) → isNil u ≡ true → u ≡ []
-    nil [] e = refl
-    nil (b ∷ u) e = absurd (let z : _≡_ {A = ℕ} 0 1 = cc in omega arith)
-
     rows : (n : ℕ) (u : List ℕ) (l : List Row) (v : List ℕ) → run? row? n u ≡ taken l v → (length l ≡ n) × (front n u ≡ (l, v))
     rows n u l v p = here (eqb (length (front n u .0)) n) refl
       where

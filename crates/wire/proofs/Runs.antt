@@ -29,7 +29,7 @@ module _ {A : Type 0} (read : List ℕ → ℕ → A) (size : ℕ) where
   length-runAt zero s i = refl
   length-runAt (suc n) s i = ap suc (length-runAt n s (i + size))
 
-pad-push : {A : Type 0} (none : A) (m : ℕ) (l : List A) (a : A) → length l < m → set (padTo none m l) (length l) a ≡ padTo none m (l ++ (a ∷ []))
+pub pad-push : {A : Type 0} (none : A) (m : ℕ) (l : List A) (a : A) → length l < m → set (padTo none m l) (length l) a ≡ padTo none m (l ++ (a ∷ []))
 unfolding padTo
 pad-push none m l a h =
     let e : m - length l ≡ suc (m - suc (length l)) = omega arith in

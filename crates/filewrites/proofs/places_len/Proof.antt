@@ -3,7 +3,7 @@ use Rattle.tables.specs.Rows.{defOf}
 use Rattle.exponents.proofs.Words.{unmapped}
 use Rattle.wire.specs.Bytes.{runBytes}
 use Rattle.files.specs.Records.{factorFile}
-use Rattle.filewrites.proofs.Written.{length-turn, length-end, def-long, def-at}
+use Rattle.filewrites.proofs.Written.{length-on, length-done, def-long, def-at}
 use native.Mathlib.Omega.{arith}
 use Prim.Native.Nat.{_+_, _-_, _*_, _≤_}
 use lib.ListN.{length, drop}
@@ -50,7 +50,7 @@ loop-again c =
     let k = c .before .before .before .loop in
     let z = sized s in
     let m = def-long (s .args .t1) z (omega arith) in
-    (omega arith, omega arith, length-turn factorFile (defOf (s .args .t1)) _ (k .i) (k .n) _ (omega arith) (k .inv .2) (c .factor-len .ensures .0 ∙ ap (λ f. length (factorFile f)) (def-at (s .args .t1) (k .i) _ (omega arith))))
+    (omega arith, omega arith, length-on factorFile (defOf (s .args .t1)) _ (k .i) (k .n) _ _ (omega arith) (k .inv .2) (c .factor-len .ensures .0 ∙ ap (λ f. length (factorFile f)) (def-at (s .args .t1) (k .i) _ (omega arith))))
 
 returns : tie.Need-returns Inv-loop μ-loop
 returns c =
@@ -58,7 +58,7 @@ returns c =
     let k = c .before .loop in
     let z = sized s in
     let m = def-long (s .args .t1) z (omega arith) in
-    (length-end factorFile (defOf (s .args .t1)) (k .i) (k .n) (omega arith) (k .inv .2), omega arith)
+    (length-done factorFile (defOf (s .args .t1)) (k .i) (k .n) _ (omega arith) (k .inv .2), omega arith)
 
 pub places-len-spec : {M : Type 1} → statement M
 places-len-spec =
