@@ -73,23 +73,25 @@
 #define DEMSHARIN_CANDIDATES 32
 
 /* What a function returns: 0, or the first refusal in the order of the checks. The table is checked
- * first, row by row, then the arguments from left to right, then what the call itself may refuse. */
+ * first, row by row, then the arguments from left to right, then what the call itself may refuse. Of RANGE
+ * and DENOMINATOR the first exponent that leaves its range decides, by its numerator if both halves do. */
 enum demsharin_refusal {
     DEMSHARIN_ANSWERED = 0,
-    DEMSHARIN_TABLE = 1,     /* over 128 rows, a length that no run of rows has, or a row breaks its rules */
-    DEMSHARIN_SHAPE = 2,     /* an argument of the wrong length, a list too long, a prefix or an exponent that
-                                breaks its rule, candidates too many or not rising */
-    DEMSHARIN_UNKNOWN = 3,   /* a list names a row that isn't there */
-    DEMSHARIN_ROOM = 4,      /* a product of over 16 factors; or, after every other refusal, too short a room */
-    DEMSHARIN_RANGE = 5,     /* an exponent leaves its range */
-    DEMSHARIN_UNITS = 6,     /* the units don't agree, and the value isn't zero */
-    DEMSHARIN_FRACTION = 7,  /* a scale other than 1 meets an exponent that isn't whole */
-    DEMSHARIN_DIVZERO = 8,   /* the divisor's value is zero */
-    DEMSHARIN_ZERONEG = 9,   /* zero to an exponent below zero */
-    DEMSHARIN_NONWHOLE = 10, /* a power by a value that isn't whole */
-    DEMSHARIN_NAN = 11,      /* a comparison with a NaN, or a NaN after conversion */
-    DEMSHARIN_FORMAT = 12    /* a file that breaks its rules, has a number above 4294967295, a rank above
-                                65535 or a definition of over 8 factors, or has more rows than there is room */
+    DEMSHARIN_TABLE = 1,       /* over 128 rows, a length that no run of rows has, or a row breaks its rules */
+    DEMSHARIN_SHAPE = 2,       /* an argument of the wrong length, a list too long, a prefix or an exponent
+                                  that breaks its rule, candidates too many or not rising */
+    DEMSHARIN_UNKNOWN = 3,     /* a list names a row that isn't there */
+    DEMSHARIN_ROOM = 4,        /* a product of over 16 factors; or, after every other refusal, too short a room */
+    DEMSHARIN_RANGE = 5,       /* an exponent's numerator leaves its range */
+    DEMSHARIN_UNITS = 6,       /* the units don't agree, and the value isn't zero */
+    DEMSHARIN_FRACTION = 7,    /* a scale other than 1 meets an exponent that isn't whole */
+    DEMSHARIN_DIVZERO = 8,     /* the divisor's value is zero */
+    DEMSHARIN_ZERONEG = 9,     /* zero to an exponent below zero */
+    DEMSHARIN_NONWHOLE = 10,   /* a power by a value that isn't whole */
+    DEMSHARIN_NAN = 11,        /* a comparison with a NaN, or a NaN after conversion */
+    DEMSHARIN_FORMAT = 12,     /* a file that breaks its rules, has a number above 4294967295, a rank above
+                                  65535 or a definition of over 8 factors, or has more rows than there is room */
+    DEMSHARIN_DENOMINATOR = 13 /* an exponent's denominator, or the common multiple of a row's, leaves its range */
 };
 
 #ifdef __cplusplus
@@ -107,33 +109,35 @@ uint32_t demsharin_product(const uint8_t *table, size_t table_len, const uint8_t
 uint32_t demsharin_quotient(const uint8_t *table, size_t table_len, const uint8_t *list, size_t list_len,
                             const uint8_t *other, size_t other_len, uint8_t *out, size_t out_len);
 
-/* List, Exponent -> List: each exponent multiplied, zeros kept. RANGE. */
+/* List, Exponent -> List: each exponent multiplied, zeros kept. RANGE or DENOMINATOR. */
 uint32_t demsharin_list_power(const uint8_t *table, size_t table_len, const uint8_t *list, size_t list_len,
                               const uint8_t *exponent, size_t exponent_len, uint8_t *out, size_t out_len);
 
-/* List -> List: in canonical order, factors of one row and prefix merged, zeros gone. RANGE. */
+/* List -> List: in canonical order, factors of one row and prefix merged, zeros gone. RANGE or
+ * DENOMINATOR. */
 uint32_t demsharin_canonical(const uint8_t *table, size_t table_len, const uint8_t *list, size_t list_len,
                              uint8_t *out, size_t out_len);
 
-/* List, List -> u32, 1 yes or 0 no: whether they have one canonical form. RANGE. */
+/* List, List -> u32, 1 yes or 0 no: whether they have one canonical form. RANGE or DENOMINATOR. */
 uint32_t demsharin_same_list(const uint8_t *table, size_t table_len, const uint8_t *list, size_t list_len,
                              const uint8_t *other, size_t other_len, uint8_t *out, size_t out_len);
 
-/* List -> Reduced: the list in base units, with its scale. RANGE, FRACTION. */
+/* List -> Reduced: the list in base units, with its scale. RANGE or DENOMINATOR, FRACTION. */
 uint32_t demsharin_reduce_list(const uint8_t *table, size_t table_len, const uint8_t *list, size_t list_len,
                                uint8_t *out, size_t out_len);
 
-/* Quantity -> Quantity in base units. RANGE, FRACTION. */
+/* Quantity -> Quantity in base units. RANGE or DENOMINATOR, FRACTION. */
 uint32_t demsharin_reduce(const uint8_t *table, size_t table_len, const uint8_t *quantity,
                           size_t quantity_len, uint8_t *out, size_t out_len);
 
-/* Quantity, List -> Quantity in the unit of the list; zero converts to any. RANGE, UNITS, FRACTION. */
+/* Quantity, List -> Quantity in the unit of the list; zero converts to any. RANGE or DENOMINATOR, UNITS,
+ * FRACTION. */
 uint32_t demsharin_convert_to(const uint8_t *table, size_t table_len, const uint8_t *quantity,
                               size_t quantity_len, const uint8_t *target, size_t target_len, uint8_t *out,
                               size_t out_len);
 
 /* Quantity, Quantity -> Quantity: the sum in the smaller of the units; a zero gives the other as it is.
- * RANGE, FRACTION, UNITS. */
+ * RANGE or DENOMINATOR, FRACTION, UNITS. */
 uint32_t demsharin_add(const uint8_t *table, size_t table_len, const uint8_t *quantity, size_t quantity_len,
                        const uint8_t *other, size_t other_len, uint8_t *out, size_t out_len);
 
@@ -167,31 +171,34 @@ uint32_t demsharin_abs(const uint8_t *table, size_t table_len, const uint8_t *qu
                        uint8_t *out, size_t out_len);
 
 /* Quantity, Quantity -> u32, 1 yes or 0 no: the second, in the first's unit, has the first's value; no if
- * the units don't agree or a value is then a NaN. RANGE, FRACTION. */
+ * the units don't agree or a value is then a NaN. RANGE or DENOMINATOR, FRACTION. */
 uint32_t demsharin_equal(const uint8_t *table, size_t table_len, const uint8_t *quantity,
                          size_t quantity_len, const uint8_t *other, size_t other_len, uint8_t *out,
                          size_t out_len);
 
 /* Quantity, Quantity -> u32, 0 less, 1 equal, 2 greater: the first against the second in the first's unit.
- * NAN, RANGE, UNITS, FRACTION. */
+ * NAN, RANGE or DENOMINATOR, UNITS, FRACTION. */
 uint32_t demsharin_compare(const uint8_t *table, size_t table_len, const uint8_t *quantity,
                            size_t quantity_len, const uint8_t *other, size_t other_len, uint8_t *out,
                            size_t out_len);
 
-/* List, List -> List: the one of the smaller scale, the first if they are equal. RANGE, FRACTION. */
+/* List, List -> List: the one of the smaller scale, the first if they are equal. RANGE or DENOMINATOR,
+ * FRACTION. */
 uint32_t demsharin_smaller_unit(const uint8_t *table, size_t table_len, const uint8_t *list, size_t list_len,
                                 const uint8_t *other, size_t other_len, uint8_t *out, size_t out_len);
 
-/* List, List -> Multiple: the exponent to which the second has the first's base exponents. RANGE. */
+/* List, List -> Multiple: the exponent to which the second has the first's base exponents. RANGE or
+ * DENOMINATOR. */
 uint32_t demsharin_is_multiple_of(const uint8_t *table, size_t table_len, const uint8_t *list,
                                   size_t list_len, const uint8_t *other, size_t other_len, uint8_t *out,
                                   size_t out_len);
 
-/* Quantity -> Quantity in a simpler unit, if it has the mark. RANGE, FRACTION. */
+/* Quantity -> Quantity in a simpler unit, if it has the mark. RANGE or DENOMINATOR, FRACTION. */
 uint32_t demsharin_full_simplify(const uint8_t *table, size_t table_len, const uint8_t *quantity,
                                  size_t quantity_len, uint8_t *out, size_t out_len);
 
-/* Quantity, Candidates -> Quantity: the same, with candidates for the unit. RANGE, FRACTION. */
+/* Quantity, Candidates -> Quantity: the same, with candidates for the unit. RANGE or DENOMINATOR,
+ * FRACTION. */
 uint32_t demsharin_full_simplify_with(const uint8_t *table, size_t table_len, const uint8_t *quantity,
                                       size_t quantity_len, const uint8_t *candidates, size_t candidates_len,
                                       uint8_t *out, size_t out_len);

@@ -10,6 +10,7 @@ use wire::text;
 
 use crate::by_code::{answer_bytes, call};
 use crate::counts::{Counts, DIFFERENT, UNJUDGED};
+use crate::steps::Steps;
 
 /// What stands in lent room before a call.
 const PAINT: u8 = 0x5a;
@@ -19,6 +20,7 @@ const SHOWN: u64 = 5;
 pub struct Judge {
     random: Random,
     pub counts: Counts,
+    pub steps: Steps,
     held: u64,
     by_the_rust: u64,
     untouched: u64,
@@ -58,8 +60,8 @@ fn expected(reading: &Answer, room: usize) -> Vec<u8> {
 impl Judge {
     pub fn new(seed: u64) -> Judge {
         let random = Random::new(!seed);
-        let (counts, held, by_the_rust) = (Counts::default(), 0, 0);
-        Judge { random, counts, held, by_the_rust, untouched: 0, longer: 0, short: 0, different: 0 }
+        let (counts, steps) = (Counts::default(), Steps::default());
+        Judge { random, counts, steps, held: 0, by_the_rust: 0, untouched: 0, longer: 0, short: 0, different: 0 }
     }
 
     pub fn hold(&mut self, request: &Request) {
@@ -81,6 +83,9 @@ impl Judge {
         self.counts.add(request.code, &outcome, 1);
         if !judged {
             self.counts.add(request.code, UNJUDGED, 1);
+        }
+        if let Some((step, refusal)) = scope::places::of(request) {
+            self.steps.add(step, refusal);
         }
         if !(alike && fits) {
             self.show(request, [&reading, &rust, &Answer { number, bytes: out }], fits);

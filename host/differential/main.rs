@@ -1,7 +1,8 @@
 // The archive against the published Rust and 01's reading, all in this one process.
 //
-//   differential SEED COUNT COUNTS    COUNT requests of a seed; counts per call and outcome go to the file COUNTS
-//   differential --table COUNTS ..    prints such files as one table
+//   differential SEED COUNT COUNTS    COUNT requests of a seed; counts per call and outcome go to the file COUNTS, those
+//                                     of the steps that leave a range to COUNTS.steps
+//   differential --table COUNTS ..    prints such files as two tables
 //
 // The archive's answer is held against the Rust's inside the equality domain, and against the reading's everywhere.
 // Ends with 1 if an answer differs, or if a call treats the room for its answer in another way than the byte form says.
@@ -13,6 +14,7 @@ mod by_code;
 mod counts;
 mod judging;
 mod requests;
+mod steps;
 
 use std::io;
 use std::process::ExitCode;
@@ -21,6 +23,7 @@ use std::time::Instant;
 use counts::{Counts, DIFFERENT};
 use generator::random::Random;
 use judging::Judge;
+use steps::Steps;
 
 const USE: &str = "differential SEED COUNT COUNTS, or differential --table COUNTS ..";
 
@@ -34,6 +37,7 @@ fn held(seed: u64, count: u64, file: &str) -> io::Result<bool> {
     let spent = from.elapsed().as_secs_f64();
     println!("seed {seed}: {} ({:.0} requests a second)", judge.summary(), count as f64 / spent);
     judge.counts.add_to(file)?;
+    judge.steps.write(&format!("{file}.steps"))?;
     Ok(judge.counts.of(DIFFERENT) == 0)
 }
 
@@ -46,6 +50,9 @@ fn table(files: &[String]) -> io::Result<bool> {
     let counts = Counts::read(first)?;
     counts.print_table();
     counts.print_total();
+    let mut steps = Steps::default();
+    files.iter().try_for_each(|file| steps.read_more(&format!("{file}.steps")))?;
+    steps.print();
     Ok(counts.of(DIFFERENT) == 0)
 }
 

@@ -1,12 +1,12 @@
 // The requests of a seed: the oracle's generator in several of its ways.
 use generator::random::Random;
-use generator::{faults, noise, requests, wild};
+use generator::{faults, halves, noise, requests, wild};
 use wire::calls::CODES;
 use wire::stream::Request;
 
 /// How often each way is gone: as they come, over about three rows, over up to 128, mostly with a fault, with bytes
-/// damaged, with random bytes for at least one argument.
-const WEIGHTS: [usize; 6] = [42, 25, 9, 14, 5, 5];
+/// damaged, with random bytes for at least one argument, with exponents that leave their range by either half.
+const WEIGHTS: [usize; 7] = [34, 20, 8, 13, 5, 5, 15];
 
 pub fn next(random: &mut Random) -> Request {
     let code = 1 + random.below(*CODES.end() as usize) as u32;
@@ -17,7 +17,10 @@ pub fn next(random: &mut Random) -> Request {
         3 => (19, 60),
         _ => (19, 8),
     };
-    let mut draft = requests::draft(random, code, rows);
+    let mut draft = match way {
+        6 => halves::draft(random, code),
+        _ => requests::draft(random, code, rows),
+    };
     if random.percent(share) {
         faults::put(random, &mut draft);
     }

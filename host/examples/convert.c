@@ -1,4 +1,4 @@
-/* Ten inches in metres from C: records put together byte by byte, one call, and a refusal. */
+/* Ten inches in metres from C: records put together byte by byte, one call, and refusals. */
 #include "demsharin.h"
 
 #include <inttypes.h>
@@ -29,13 +29,15 @@ static double value_of(uint64_t bits) {
     return value;
 }
 
-/* A row to the first power, without prefix. */
-static void put_factor(uint8_t *place, uint32_t row) {
+/* A row to a power, without prefix. */
+static void put_power(uint8_t *place, uint32_t row, uint32_t numerator, uint32_t denominator) {
     memset(place, 0, DEMSHARIN_FACTOR_BYTES);
     put(place, row, 4);
-    put(place + 12, 1, 4);
-    put(place + 16, 1, 4);
+    put(place + 12, numerator, 4);
+    put(place + 16, denominator, 4);
 }
+
+static void put_factor(uint8_t *place, uint32_t row) { put_power(place, row, 1, 1); }
 
 /* Places past the length are never read, so they need not be written. */
 static void put_list(uint8_t *place, uint32_t row) {
@@ -53,6 +55,15 @@ static void put_table(uint8_t *table) {
     put(inch + 4, 1, 4);
     put(inch + 8, bits_of(0.0254), 8);
     put_factor(inch + 16, METRE);
+}
+
+/* What merging two powers of a metre is refused for. */
+static uint32_t merged(const uint8_t *table, size_t table_len, uint32_t a, uint32_t b, uint32_t c, uint32_t d) {
+    uint8_t list[DEMSHARIN_LIST_BYTES] = {0}, answer[DEMSHARIN_LIST_BYTES];
+    put(list, 2, 4);
+    put_power(list + 4, METRE, a, b);
+    put_power(list + 4 + DEMSHARIN_FACTOR_BYTES, METRE, c, d);
+    return demsharin_canonical(table, table_len, list, sizeof list, answer, sizeof answer);
 }
 
 int main(void) {
@@ -74,5 +85,11 @@ int main(void) {
     refusal = demsharin_convert_to(table, sizeof table, quantity, sizeof quantity, target, sizeof target,
                                    answer, sizeof answer);
     printf("10 inch to a row that isn't there: refusal %" PRIu32 "\n", refusal);
-    return refusal == DEMSHARIN_UNKNOWN && get(answer, 8) == bits ? 0 : 1;
+    int kept = refusal == DEMSHARIN_UNKNOWN && get(answer, 8) == bits;
+
+    uint32_t power = merged(table, sizeof table, INT32_MAX, 1, 1, 1);
+    uint32_t root = merged(table, sizeof table, 1, 65536, 1, 65537);
+    printf("metre^2147483647 metre: refusal %" PRIu32 "\n", power);
+    printf("metre^(1/65536) metre^(1/65537): refusal %" PRIu32 "\n", root);
+    return kept && power == DEMSHARIN_RANGE && root == DEMSHARIN_DENOMINATOR ? 0 : 1;
 }

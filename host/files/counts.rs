@@ -3,7 +3,7 @@ use std::collections::BTreeMap;
 use std::fs;
 use std::io;
 
-const REFUSALS: [&str; 5] = ["TABLE", "SHAPE", "RANGE", "FRACTION", "FORMAT"];
+const REFUSALS: [&str; 6] = ["TABLE", "SHAPE", "RANGE", "DENOMINATOR", "FRACTION", "FORMAT"];
 const ALL: &str = "all";
 const PLACES: &str = "places";
 const SHORT: &str = "below the head";
@@ -90,7 +90,7 @@ impl Counts {
     }
 
     fn print_rest(&self) {
-        let written = ["answered", "ROOM", "TABLE", "SHAPE", "RANGE", "FRACTION"];
+        let written = ["answered", "ROOM", "TABLE", "SHAPE", "RANGE", "DENOMINATOR", "FRACTION"];
         let told = written.map(|name| format!("{name} {}", self.of(ALL, &format!("written {name}"))));
         println!("written: {}", told.join(", "));
         let lent = ["too few", "as many", "more", "for no count", "128", "129", "200", SHORT];

@@ -13,7 +13,7 @@ import sys
 from fractions import Fraction
 
 MOST = 2147483647
-TABLE, SHAPE, UNKNOWN, ROOM, RANGE, FRACTION = 1, 2, 3, 4, 5, 7
+TABLE, SHAPE, UNKNOWN, ROOM, RANGE, FRACTION, DENOMINATOR = 1, 2, 3, 4, 5, 7, 13
 METRIC, BINARY = 0, 1
 NAN = 0x7FF8000000000000
 
@@ -89,8 +89,11 @@ def power(base, n):
 
 
 def ranged(x):
-    if abs(x.numerator) > MOST or x.denominator > MOST:
+    """The numerator decides if both leave their range."""
+    if abs(x.numerator) > MOST:
         raise Refused(RANGE)
+    if x.denominator > MOST:
+        raise Refused(DENOMINATOR)
     return x
 
 
@@ -127,7 +130,7 @@ def key_multiple(exponents):
     for rank in sorted(exponents):
         m = math.lcm(m, exponents[rank].denominator)
         if m > MOST:
-            raise Refused(RANGE)
+            raise Refused(DENOMINATOR)
 
 
 def scale(definition, rows):
@@ -397,13 +400,13 @@ def ranges():
 
 
 def orders():
-    """In one row TABLE, SHAPE, RANGE, FRACTION; of two rows the first decides."""
+    """In one row TABLE, SHAPE, RANGE or DENOMINATOR, FRACTION; of two rows the first decides."""
     top, root = f(0, 0, MOST), f(0, 3, 1, 2)
     admission("TABLE and SHAPE", one(derived(1, 0.0, f(0, 1101))))
     admission("own row named, and SHAPE", one(derived(1, 1.0, f(3, 1101))))
     admission("SHAPE and RANGE", one(pair(1, top, f(0, 1101))))
     admission("RANGE and FRACTION", one(pair(1, top, root)))
-    admission("RANGE of the key and FRACTION", one(pair(1, f(0, 3, 1, 65536), f(1, 0, 1, 65537))))
+    admission("DENOMINATOR of the key and FRACTION", one(pair(1, f(0, 3, 1, 65536), f(1, 0, 1, 65537))))
     admission("FRACTION, then TABLE", two(derived(2, 1.0, root), derived(1, 0.0, root)))
     admission("SHAPE, then rank met", two(derived(2, 1.0, f(0, 1101)), (1000, None, [])))
     admission("RANGE before a 17th base row", table(16, 16) + [pair(1, top, f(0)), (2, None, [])])

@@ -13,8 +13,9 @@ import pathlib
 import struct
 import sys
 
-from edges import BINARY, MOST, TABLE, admit, bits, f, given, of_bits, places, refused, request, table_bytes, words
+from edges import BINARY, DENOMINATOR, MOST, TABLE, admit, bits, f, given, of_bits, places, refused, request
 from edges import table as ranked
+from edges import table_bytes, words
 
 ROOM, SHAPE, RANGE, FRACTION, FORMAT = 4, 2, 5, 7, 12
 WRITE, READ, SALVAGE = 24, 25, 26
@@ -247,11 +248,18 @@ def reading_3():
     row("denominator 2147483648", SHAPE, f(0, 0, 1, MOST + 1))
     row("denominator 4294967295", SHAPE, f(0, 0, 1, TOP))
     row("RANGE", RANGE, top, f(0))
+    row("DENOMINATOR", DENOMINATOR, f(0, 0, 1, 65536), f(0, 0, 1, 65537))
+    both("DENOMINATOR of the key", file_of(keyed()), 3, DENOMINATOR)
     row("FRACTION", FRACTION, f(0, 3, 1, 2))
     row("TABLE before SHAPE", TABLE, f(1, 1101))
     row("all at their limits", None, f(0, 1100, MOST - 1), f(0, -1100, -MOST, MOST - 1, BINARY), factor=5e-324)
     both("a rank again", file_of([base, base]), 2, TABLE)
     both("a 17th base row", file_of(ranked(17, 17)), 17, TABLE)
+
+
+def keyed():
+    """A row whose denominators have a common multiple beyond the range."""
+    return ranked(2, 2) + [(1, 2.0, [f(0, 0, 1, 65536), f(1, 0, 1, 65537)])]
 
 
 def reading_4():
@@ -264,6 +272,7 @@ def reading_5():
     twice, rows = [(7, None, [])] * 2, small()
     written("a rank again", twice, 0, TABLE)
     written("a rank again", twice, 100, TABLE)
+    written("a common multiple beyond the range", keyed(), 0, DENOMINATOR)
     for room in (0, 1, len(file_of(rows)) - 1):
         written("four rows", rows, room, ROOM)
     for room in (len(file_of(rows)), len(file_of(rows)) + 1, TOP):

@@ -46,6 +46,10 @@ UNITS = {
     "farspeed": (1.0 + 4503600 * 2.0**-52, "metre · second^-1"),
 }
 
+# Roots of a base unit, and one of two base units.
+ROOTED = dict.fromkeys(["bit", "metre", "second"])
+ROOTED |= {"root": (1.0, "metre^(1/2)"), "cube": (1.0, "metre^(1/3)"), "mix": (1.0, "metre · second^(1/3)")}
+
 # Sixteen units of sixteen keys.
 KEYS = dict.fromkeys(["ampere", "bit", "candela", "gram", "kelvin", "metre", "mole", "second"]) | {
     name: UNITS[name] for name in ("newton", "pascal", "joule", "watt")
@@ -172,10 +176,10 @@ def ranges():
     over = f"metre^{MOST} · metre"
     simplify("RANGE in the canonical form, for zero too", 0, over)
     simplify("RANGE in the canonical list's base exponents", 5, f"bit · hour^{MOST} · second^-1 · minute")
-    simplify("RANGE in a multiple's quotient", 5, f"metre^(1/{MOST}) · are^(-1/{MOST})")
+    simplify("DENOMINATOR in a multiple's quotient", 5, f"metre^(1/{MOST}) · are^(-1/{MOST})")
     simplify("RANGE in a multiple's products", 5, f"gram^{MOST - 1} · newton")
-    simplify("RANGE in a quotient of a group's exponents", 5, f"bit · are^(1/{MOST}) · litre^(-1/{MOST})")
-    simplify("RANGE in the sum of a group's exponents", 5, "bit · are^(1/65536) · litre^(2/196605)")
+    simplify("DENOMINATOR in a quotient of a group's exponents", 5, f"bit · are^(1/{MOST}) · litre^(-1/{MOST})")
+    simplify("DENOMINATOR in the sum of a group's exponents", 5, "bit · are^(1/65536) · litre^(2/196605)")
     watt = "newton · metre · second^-1"
     simplify_with("RANGE in a candidate's base exponents", 5, watt, over, "watt")
     simplify_with("one factor wins before a candidate beyond the range", 5, watt, "watt", over)
@@ -184,6 +188,26 @@ def ranges():
     six = "newton · pascal^-1 · metre^-1 · second^-2 · joule · watt^-1"
     wide = f"metre^{MOST} · Binary(0) metre^-{MOST} · metre · second^-1"
     simplify_with("RANGE in the conversion to one that could not win", 5, six, "metre · second^-1", wide)
+
+
+def halves():
+    """02's order 2: the other half at each place, and neither taken for UNITS."""
+    odd = "metre^(1/65536) · metre^(1/65537)"
+    simplify("DENOMINATOR in the canonical form, for zero too", 0, odd)
+    thirds = "bit · hour^(1/65536) · second^(-1/65536) · minute^(1/65537)"
+    simplify("DENOMINATOR in the canonical list's base exponents", 5, thirds)
+    simplify("in range, since a group's exponent is multiplied before it is divided", 5, f"bit · are^(1/{MOST})")
+    simplify_with("DENOMINATOR in a candidate's base exponents", 5, "newton · metre · second^-1", odd, "watt")
+    simplify_with("one factor wins before a candidate of odd roots", 5, "newton · metre · second^-1", "watt", odd)
+
+    def rooted(label, unit):
+        simplify(label, 5, unit, units=ROOTED)
+
+    rooted("DENOMINATOR in the conversion to scalar, not UNITS", f"cube^(1/{MOST}) · cube^(-1/{MOST}) · bit")
+    rooted("RANGE in a multiple's quotient", "cube^3 · metre^1000000000")
+    rooted("DENOMINATOR in a multiple's products", f"mix · metre^(-{MOST - 1}/{MOST})")
+    rooted("RANGE in a quotient of a group's exponents", f"bit · cube^3 · root^-{MOST - 1}")
+    rooted("RANGE in the sum of a group's exponents", "bit · cube^-3 · root^-1431655764")
 
 
 def choices():
@@ -295,7 +319,7 @@ def told(word="", *files):
 
 def main(*words):
     simplifying = (examples, roots, groups, multiples, ranges)
-    for part in simplifying + (choices, base_units, scales, orders, marks, values, sixteen):
+    for part in simplifying + (choices, base_units, scales, orders, marks, values, sixteen, halves):
         part()
     told(*words)
 

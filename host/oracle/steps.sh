@@ -82,35 +82,41 @@ depths() {
     done
 }
 
-# How many answers each wrong reading of 01 changes: in 60,000 generated requests, and in the stored list.
+# wrong [list] [files] [halves]: how many answers each wrong reading changes, in 60,000 generated requests and in stored
+# records; of 01, which the Rust judges, of 02's order 1 and of its order 2, which the right reading judges
 wrong() {
-    local name folder generated stored
-    program generate 1 60000 >"$streams/requests"
-    program oracle <"$streams/requests" >"$streams/rust"
-    program store split "$streams/stored-requests" "$streams/stored" "$records"/call-*.bin
-    echo '| wrong reading | of 60,000 generated | of the stored list |'
-    echo '|---|---|---|'
-    for name in $(python3 "$here/wrong.py" list); do
-        folder=$streams/$name
-        python3 "$here/wrong.py" "$name" "$folder"
-        wrong_reader "$folder"
-        generated=$(changed "$folder" "$streams/requests" "$streams/rust")
-        stored=$(changed "$folder" "$streams/stored-requests" "$streams/stored")
-        echo "| $name | $generated | $stored |"
-        rm -rf "$folder"
-    done
-    wrong_files
+    local word
+    [ $# -gt 0 ] || set -- list files halves
+    for word in "$@"; do "wrong_$word"; done
 }
 
-# The same for wrong readings of 02's order 1, which the right reading judges.
+wrong_list() {
+    program generate 1 60000 >"$streams/requests"
+    program oracle <"$streams/requests" >"$streams/right"
+    wrong_table list "wrong reading" "the stored list" "$records"/call-*.bin
+}
+
 wrong_files() {
-    local name folder generated stored
     program generate 1 60000 --calls 24,25,26 --faults 60 >"$streams/requests"
     program oracle --reading <"$streams/requests" >"$streams/right"
-    program store split "$streams/stored-requests" "$streams/stored" "$records"/{named,edges}-files.bin
-    echo '| wrong reading of a table file | of 60,000 generated | of the stored files |'
+    wrong_table files "wrong reading of a table file" "the stored files" "$records"/{named,edges}-files.bin
+}
+
+wrong_halves() {
+    program generate 1 60000 --halves >"$streams/requests"
+    program oracle --reading <"$streams/requests" >"$streams/right"
+    wrong_table halves "wrong reading of the halves" "the stored records" "$records"/edges-{limits,admissions,halves}.bin \
+        "$records/named-simplifications.bin"
+}
+
+# wrong_table WORD TITLE LIST FILE ..: a line for each wrong reading that wrong.py lists under the word
+wrong_table() {
+    local word=$1 title=$2 list=$3 name folder generated stored
+    shift 3
+    program store split "$streams/stored-requests" "$streams/stored" "$@"
+    echo "| $title | of 60,000 generated | of $list |"
     echo '|---|---|---|'
-    for name in $(python3 "$here/wrong.py" files); do
+    for name in $(python3 "$here/wrong.py" "$word"); do
         folder=$streams/$name
         python3 "$here/wrong.py" "$name" "$folder"
         wrong_reader "$folder"
@@ -214,12 +220,13 @@ bad_end() {
     program decode "$streams/requests" --from $low --count 1
 }
 
-# mixed SEED: 60,000 requests, some over few rows, some over up to 128, some with many faults
+# mixed SEED: 70,000 requests, some over few rows, some over up to 128, some with many faults, some by either half
 mixed() {
     program generate $(($1 * 4)) 25000 --calls "$asked"
     program generate $(($1 * 4 + 1)) 15000 --calls "$asked" --rows 3 --faults 4
     program generate $(($1 * 4 + 2)) 10000 --calls "$asked" --rows 128 --faults 4
     program generate $(($1 * 4 + 3)) 10000 --calls "$asked" --faults 60
+    program generate $(($1 * 4 + 3)) 10000 --calls "$asked" --halves
 }
 
 # Over seeds: `calls` against the Rust inside its domain, and against 01's reading everywhere.
@@ -232,12 +239,12 @@ against() {
         mixed "$seed" >"$streams/requests"
         timed oracle program oracle <"$streams/requests" >"$streams/rust"
         timed reading program oracle --reading <"$streams/requests" >"$streams/reading"
-        answered 60000 || failed=1
+        answered 70000 || failed=1
         program compare "$streams"/{requests,rust,reading,calls} --add "$streams/counts" || failed=1
     done
     echo "calls against the Rust and 01's reading, seeds $*:"
     program compare --table "$streams/counts" || failed=1
-    requests=$(($# * 60000))
+    requests=$(($# * 70000))
     for name in calls oracle reading; do
         echo "$name: $((spent[$name] / 1000000)) ms, $((requests * 1000000000 / spent[$name])) requests a second"
     done
@@ -292,7 +299,8 @@ endings() {
 edges() {
     local name failed=0
     python3 "$here/edges.py" write "$records"
-    for name in limits admissions; do
+    python3 -B "$here/halves.py" write "$records"
+    for name in limits admissions halves; do
         program store split "$streams/requests" "$streams/stored" "$records/edges-$name.bin"
         program oracle <"$streams/requests" >"$streams/rust"
         program oracle --reading <"$streams/requests" >"$streams/reading"

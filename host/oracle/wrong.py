@@ -1,9 +1,10 @@
 #!/usr/bin/env python3
-# Puts one wrong reading of 01, or of 02's order 1, into a copy of the folder `scope`, to see whether the generated
+# Puts one wrong reading of 01, or of 02's orders 1 and 2, into a copy of the folder `scope`, to see whether the generated
 # requests and the stored list show it. Each is an exact text put for another that must stand there once.
 #
 #   wrong.py list              names all of 01
 #   wrong.py files             names all of 02's order 1
+#   wrong.py halves            names all of 02's order 2
 #   wrong.py NAME FOLDER       writes the copy with that one
 import pathlib
 import shutil
@@ -80,13 +81,84 @@ FILES = {
 }
 
 
+# Places of order 2, before which a wrong order puts another step.
+NUMERATOR = "    if num.abs() > LIMIT {"
+DENOMINATOR = "    if den > LIMIT {\n        return Err(DENOMINATOR);\n    }\n"
+LOWEST = "let (num, den) = (num / divisor, den / divisor);"
+UNREDUCED = "if num.abs() > LIMIT {\n return Err(RANGE);\n }\n if den.abs() > LIMIT {\n return Err(DENOMINATOR);\n }\n"
+BY_BASE_ROW = "    let mut exponents = Vec::new();\n    for rank in reached(rows, parts) {"
+UP_TO = "exponent_of(rows, &parts[..=at], rank)?;"
+FACTOR_AFTER_FACTOR = "for at in 0..parts.len() { for rank in reached(rows, parts) { " + UP_TO + " } }\n"
+FROM_THE_LAST = "for rank in reached(rows, parts).into_iter().rev() { exponent_of(rows, parts, rank)?; }\n"
+SUM = "    let mut sum = ZERO;\n    for p in parts {"
+PRODUCTS = "for p in parts { p.exponent.times(exponent_at(&rows[p.row].exponents, rank))?; }\n"
+ROW_BASE = "base_exponents(known, &parts)?"
+KEY_SO_FAR = """{
+    let at = |rank: u16| Some((rank, crate::reduction::exponent_of(known, &parts, rank).ok()?));
+    let mut some: Exponents = crate::reduction::reached(known, &parts).into_iter().map_while(at).collect();
+    some.retain(|(_, e)| e.num != 0);
+    key(&some)?;
+    base_exponents(known, &parts)?
+}"""
+MERGING = "    for p in parts {\n        match"
+FACTOR_BY_FACTOR = """for first in parts {
+    let mut sum = ZERO;
+    for p in parts.iter().filter(|p| p.row == first.row && p.prefix == first.prefix) {
+        sum = sum.plus(p.exponent)?;
+    }
+}
+"""
+FORMS = "(canonical(table, own)?, canonical(table, target)?)"
+FORMS_TURNED = "{ let form = canonical(table, target)?; (canonical(table, own)?, form) }"
+TARGET_FORM = "canonical(table, target)?"
+TARGET_FORM_LATE = "canonical(table, target).or_else(|r| base_exponents(&table.rows, own).and(Err(r)))?"
+OWN_BASE = "let own_base = base_exponents(&table.rows, &own_left)?;"
+TARGET_LEFT = "let left = canonical(table, &joined(target, &common))?;"
+TARGET_BASE = "base_exponents(&table.rows, &left)?;"
+COMPARED = "let other = converted(table, b.value, &b.unit, &a.unit)?;"
+EQUALLED = "match converted(table, b.value, &b.unit, &a.unit) {"
+FIRST_IS_OWN = "same(table, &a.unit, &b.unit)?;"
+SCALES = "let (own, other) = (scale_after_base(table, a)?, scale_after_base(table, b)?);"
+SHARE = "p.exponent.times(first_exponent(table, p))?.over(divisor)?"
+POWERS = "parts.iter().map(|p| Ok(Part { exponent: p.exponent.times(e)?, ..*p })).collect()"
+LAST_POWER = "for p in parts.iter().rev() { p.exponent.times(e)?; }"
+A_BASE = "let a = base_exponents(&table.rows, a)?;"
+
+HALVES = {
+    "range-for-both": ("fractions.rs", "return Err(DENOMINATOR);", "return Err(RANGE);"),
+    "denominator-first": ("fractions.rs", NUMERATOR, DENOMINATOR + NUMERATOR),
+    "tested-before-lowest-terms": ("fractions.rs", LOWEST, UNREDUCED + LOWEST),
+    "common-multiple-as-range": ("tables.rs", "return Err(DENOMINATOR);", "return Err(wire::refusals::RANGE);"),
+    "key-before-last-base-exponent": ("tables.rs", ROW_BASE, KEY_SO_FAR),
+    "first-factor-decides": ("reduction.rs", BY_BASE_ROW, FACTOR_AFTER_FACTOR + BY_BASE_ROW),
+    "highest-base-row-decides": ("reduction.rs", BY_BASE_ROW, FROM_THE_LAST + BY_BASE_ROW),
+    "products-before-sums": ("reduction.rs", SUM, PRODUCTS + SUM),
+    "merged-factor-by-factor": ("canonical.rs", MERGING, FACTOR_BY_FACTOR + MERGING),
+    "merged-from-the-right": ("canonical.rs", MERGING, MERGING.replace("in parts", "in parts.iter().rev()")),
+    "target-form-first": ("conversion.rs", FORMS, FORMS_TURNED),
+    "own-base-before-target-form": ("conversion.rs", TARGET_FORM, TARGET_FORM_LATE),
+    "target-left-before-own-base": ("conversion.rs", OWN_BASE, TARGET_LEFT + OWN_BASE),
+    "target-base-before-own-base": ("conversion.rs", OWN_BASE, TARGET_LEFT + TARGET_BASE + OWN_BASE),
+    "compare-has-the-first-own": ("sums.rs", COMPARED, FIRST_IS_OWN + COMPARED),
+    "equal-has-the-first-own": ("sums.rs", EQUALLED, FIRST_IS_OWN + EQUALLED),
+    "denominator-is-unequal": ("sums.rs", "Err(UNITS) => Ok(false)", "Err(UNITS | 13) => Ok(false)"),
+    "other's-scale-first": ("sums.rs", SCALES, "scale_after_base(table, b)?;" + SCALES),
+    "whole-exponent-as-denominator": ("sums.rs", "return Err(RANGE);", "return Err(13);"),
+    "last-factor-of-a-power": ("lists.rs", POWERS, LAST_POWER + POWERS),
+    "second-list-before-first": ("multiples.rs", A_BASE, "base_exponents(&table.rows, b)?;" + A_BASE),
+    "denominator-leads-on": ("simplification.rs", "Err(UNITS) => Ok(None)", "Err(UNITS | 13) => Ok(None)"),
+    "share-divided-first": ("simplification.rs", SHARE, "p.exponent.over(divisor)?.times(first_exponent(table, p))?"),
+}
+
+
 def main():
-    if sys.argv[1:] in (["list"], ["files"]):
-        print("\n".join(WRONG if sys.argv[1] == "list" else FILES))
+    names = {"list": WRONG, "files": FILES, "halves": HALVES}
+    if len(sys.argv) == 2:
+        print("\n".join(names[sys.argv[1]]))
         return
     name, folder = sys.argv[1], pathlib.Path(sys.argv[2])
     shutil.copytree(HERE / "scope", folder)
-    file, old, new = (WRONG | FILES)[name]
+    file, old, new = (WRONG | FILES | HALVES)[name]
     text = (folder / file).read_text()
     if text.count(old) != 1:
         sys.exit(f"wrong: {name} applies {text.count(old)} times")

@@ -9,7 +9,7 @@ use Rattle.canonical.specs.Canonical.{canon, sameList}
 use Rattle.canonical.specs.declared.equality.Verdict.{Verdict}
 use Rattle.canonical.specs.declared.equality.Verdict.the-variants.{Yes, No, Refused}
 
--- RANGE of the first list's canonical form, then of the second's
+-- RANGE or DENOMINATOR of the first list's canonical form, then of the second's
 unfoldable pub equal : (Atom → Atom → Ordering) → List Factor → List Factor → Outcome Bool
 equal cmp l m = bind (canon cmp l) (λ c. apply (sameList cmp c) (canon cmp m))
 

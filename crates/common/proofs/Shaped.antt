@@ -24,27 +24,42 @@ use Rattle.common.specs.declared.Shared.the-variants.{Takes, Nothing}
 use Rattle.common.specs.Common.{meet, ifSame, withShared, sharedWith, common}
 use Rattle.common.specs.Held.{taken, lessen}
 
--- ---- what two factors share is one of their exponents
-abbrev Fine : Shared → Type 0
-Fine (Takes e) = faulty e ≡ false
-Fine Nothing = Unit {0}
+-- ---- what two factors share is one of their exponents: E holds of exponents
+module _ (E : Exponent → Type 0) where
+  abbrev Has : Shared → Type 0
+  Has (Takes e) = E e
+  Has Nothing = Unit {0}
 
-meet-fine : (x y : Exponent) → faulty x ≡ false → faulty y ≡ false → Fine (meet x y)
-unfolding meet
-meet-fine x y p q =
-    pick-is Fine (less nought x && less nought y) (pick-is Fine (less x y) {a = Takes x} {b = Takes y} p q)
-    (pick-is Fine (less x nought && less y nought) (pick-is Fine (less x y) {a = Takes y} {b = Takes x} q p) tt)
+  meet-has : (x y : Exponent) → E x → E y → Has (meet x y)
+  unfolding meet
+  meet-has x y p q =
+      pick-is Has (less nought x && less nought y) (pick-is Has (less x y) {a = Takes x} {b = Takes y} p q)
+      (pick-is Has (less x nought && less y nought) (pick-is Has (less x y) {a = Takes y} {b = Takes x} q p) tt)
 
-if-fine : (o : Ordering) (a b : Shared) → Fine a → Fine b → Fine (ifSame o a b)
-unfolding ifSame
-if-fine Ordering·lt a b p q = q
-if-fine Ordering·eq a b p q = p
-if-fine Ordering·gt a b p q = q
+  if-has : (o : Ordering) (a b : Shared) → Has a → Has b → Has (ifSame o a b)
+  unfolding ifSame
+  if-has Ordering·lt a b p q = q
+  if-has Ordering·eq a b p q = p
+  if-has Ordering·gt a b p q = q
 
-with-kept : (s : Shared) (f : Factor) (l : List Factor) → Fine s → Kept f → All Kept l → All Kept (withShared s f l)
-unfolding withShared
-with-kept (Takes e) f l p h k = (kept-with f e h p, k)
-with-kept Nothing f l p h k = k
+  -- P holds of factors: their exponents have E, and any other with E keeps P
+  module _ (P : Factor → Type 0) (exponent : (f : Factor) → P f → E (f .exponent)) (other : (f : Factor) (e : Exponent) → P f → E e → P (of (atom f) e)) where
+    with-all : (s : Shared) (f : Factor) (l : List Factor) → Has s → P f → All P l → All P (withShared s f l)
+    unfolding withShared
+    with-all (Takes e) f l p h k = (other f e h p, k)
+    with-all Nothing f l p h k = k
+
+    module _ (cmp : Atom → Atom → Ordering) where
+      shared-has : (f : Factor) (m : List Factor) → E (f .exponent) → All P m → Has (sharedWith cmp f m)
+      unfolding sharedWith
+      shared-has f [] p h = tt
+      shared-has f (g ∷ m) p h = if-has _ _ _ (meet-has (f .exponent) (g .exponent) p (exponent g (h .0))) (shared-has f m p (h .1))
+
+      -- so P holds of the common factors
+      pub common-all : (l m : List Factor) → All P l → All P m → All P (common cmp l m)
+      unfolding common
+      common-all [] m h k = tt
+      common-all (f ∷ l) m h k = with-all _ f (common cmp l m) (shared-has f m (exponent f (h .0)) k) (h .0) (common-all l m (h .1) k)
 
 with-short : (s : Shared) (f : Factor) (l : List Factor) (n : ℕ) → length l ≤ n → length (withShared s f l) ≤ suc n
 unfolding withShared
@@ -66,21 +81,16 @@ inverted-kept l h = none-faulty factorFault (map inverted l) (inverted-all l (ea
 -- `cmp` is the order of factors
 module _ (cmp : Atom → Atom → Ordering) where
   -- ---- common factors
-  shared-fine : (f : Factor) (m : List Factor) → faulty (f .exponent) ≡ false → All Kept m → Fine (sharedWith cmp f m)
-  unfolding sharedWith
-  shared-fine f [] p h = tt
-  shared-fine f (g ∷ m) p h = if-fine _ _ _ (meet-fine (f .exponent) (g .exponent) p (exponent-sound g (h .0))) (shared-fine f m p (h .1))
+
+  -- an exponent that keeps its rule
+  abbrev Fine : Exponent → Type 0
+  Fine e = faulty e ≡ false
 
   pub taken-sound : (f : Factor) (m : List Factor) (e : Exponent) → faulty (f .exponent) ≡ false → some factorFault m ≡ false → sharedWith cmp f m ≡ Takes e → faulty e ≡ false
-  taken-sound f m e p h t = subst Fine t (shared-fine f m p (each-faultless factorFault m h))
-
-  common-all : (l m : List Factor) → All Kept l → All Kept m → All Kept (common cmp l m)
-  unfolding common
-  common-all [] m h k = tt
-  common-all (f ∷ l) m h k = with-kept _ f (common cmp l m) (shared-fine f m (exponent-sound f (h .0)) k) (h .0) (common-all l m (h .1) k)
+  taken-sound f m e p h t = subst (Has Fine) t (shared-has Fine Kept exponent-sound kept-with cmp f m p (each-faultless factorFault m h))
 
   pub common-kept : (l m : List Factor) → some factorFault l ≡ false → some factorFault m ≡ false → some factorFault (common cmp l m) ≡ false
-  common-kept l m h k = none-faulty factorFault (common cmp l m) (common-all l m (each-faultless factorFault l h) (each-faultless factorFault m k))
+  common-kept l m h k = none-faulty factorFault (common cmp l m) (common-all Fine Kept exponent-sound kept-with cmp l m (each-faultless factorFault l h) (each-faultless factorFault m k))
 
   pub common-short : (l m : List Factor) → length (common cmp l m) ≤ length l
   unfolding common

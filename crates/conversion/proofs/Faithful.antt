@@ -3,9 +3,10 @@ use mathlib.Core.Path.{_≡_, refl, sym, _∙_, ap, ap₂, subst}
 use mathlib.Core.Bool.{Bool, true, false, _||_, or-true, true≢false}
 use mathlib.Core.Logic.{_↔_}
 use mathlib.Core.List.{List}
-use Rattle.exponents.specs.Outcome.{Refusal, RANGE, UNITS, FRACTION, Outcome, given, refused}
+use Rattle.exponents.specs.Outcome.{Refusal, UNITS, FRACTION, Outcome, given, refused}
 use Rattle.exponents.specs.declared.Exponent.{Exponent}
 use Rattle.exponents.proofs.Holds.{Only, fine, only, only-out, either, bind-given, bind-refused}
+use Rattle.exponents.proofs.Halves.{OutOfRange}
 use Rattle.exponents.proofs.Value.{Value}
 use Rattle.units.specs.declared.Factor.{Factor}
 use Rattle.tables.specs.Rules.{Rules}
@@ -96,14 +97,14 @@ module _ {A : Type 0} (R : Rules A) (W : Value) (O : Total (R .order)) where
 
   -- ---- the other way round: what a refusal tells
 
-  -- the five steps refuse only by RANGE
-  pub stopped-only : (S : Refusal → Type 0) → S RANGE → (l m : List Factor) (v : A) {r : Refusal} → Stopped R W l m v r → S r
+  -- the five steps refuse only what leaves the range
+  pub stopped-only : (S : Refusal → Type 0) → ((r : Refusal) → OutOfRange r → S r) → (l m : List Factor) (v : A) {r : Refusal} → Stopped R W l m v r → S r
   stopped-only S range l m v (at-own e) = only-out (canon-only S range (R .order) l) e
   stopped-only S range l m v (at-target el e) = only-out (canon-only S range (R .order) m) e
   stopped-only S range l m v (at-reduced u s) = stops-only (R .bases) _ _ S range (canon-only S range (R .order) _) s
 
-  -- a conversion refuses by RANGE, by FRACTION, or, where base exponents differ, by UNITS
-  module _ (S : Refusal → Type 0) (range : S RANGE) (frac : S FRACTION) (l m : List Factor) (v : A) (differ : (Agree W (R .bases) l m → ⊥) → S UNITS) where
+  -- a conversion refuses what leaves the range, by FRACTION, or, where base exponents differ, by UNITS
+  module _ (S : Refusal → Type 0) (range : (r : Refusal) → OutOfRange r → S r) (frac : S FRACTION) (l m : List Factor) (v : A) (differ : (Agree W (R .bases) l m → ⊥) → S UNITS) where
     answer-only : (k : Case R W l m v) → Only S (answer R W k)
     unfolding rescaled
     answer-only (zero el em z) = fine
@@ -120,17 +121,19 @@ module _ {A : Type 0} (R : Rules A) (W : Value) (O : Total (R .order)) where
     by-fraction : (own t : List Factor) {r : Refusal} → rescaled R own t v ≡ refused r → r ≡ FRACTION
     by-fraction own t e = only-out (fraction-only (λ r. r ≡ FRACTION) refl (rescaled-is R own t v)) e
 
-    stopped-from : (k : Case R W l m v) → answer R W k ≡ refused RANGE → Stopped R W l m v RANGE
-    unfolding rescaled
-    stopped-from (zero el em z) e = absurd (given-not-refused e)
-    stopped-from (equal el em) e = absurd (given-not-refused e)
-    stopped-from (stopped s) e = subst (λ r. Stopped R W l m v r) (stopped-only (λ r. r ≡ RANGE) refl l m v s) s
-    stopped-from (units s n) e = absurd (range-not-units (only-out {S = λ r. r ≡ UNITS} (only refl) e))
-    stopped-from (value {t = t} s a) e = absurd (range-not-fraction (by-fraction _ t e))
+    -- r is a refusal of what leaves the range
+    module _ (r : Refusal) (range : OutOfRange r) where
+      stopped-from : (k : Case R W l m v) → answer R W k ≡ refused r → Stopped R W l m v r
+      unfolding rescaled
+      stopped-from (zero el em z) e = absurd (given-not-refused e)
+      stopped-from (equal el em) e = absurd (given-not-refused e)
+      stopped-from (stopped {r = o} s) e = subst (λ o. Stopped R W l m v o) (let z : o ≡ r = cc in z) s
+      stopped-from (units s n) e = absurd (range-not-units r range (only-out {S = λ r. r ≡ UNITS} (only refl) e))
+      stopped-from (value {t = t} s a) e = absurd (range-not-fraction r range (by-fraction _ t e))
 
-    -- RANGE exactly where one of the five steps refuses; by `stopped-only` a step has no other refusal
-    pub range-exactly : (convert R l m v ≡ refused RANGE) ↔ Stopped R W l m v RANGE
-    range-exactly = (λ e. stopped-from (case l m v) (sym (faithful l m v (case l m v)) ∙ e), stops l m v)
+      -- exactly where one of the five steps refuses, with the refusal of the first; by `stopped-only` a step has no others
+      pub range-exactly : (convert R l m v ≡ refused r) ↔ Stopped R W l m v r
+      range-exactly = (λ e. stopped-from (case l m v) (sym (faithful l m v (case l m v)) ∙ e), stops l m v)
 
     -- all five steps answer
     module _ {cl cm t : List Factor} {x y : List Exponent} (s : Reduced R W l m v cl cm x t y) where

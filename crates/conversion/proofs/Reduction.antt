@@ -4,9 +4,10 @@ use mathlib.Core.Bool.{Bool, true, false, true≢false}
 use mathlib.Core.Logic.{_↔_}
 use mathlib.Core.List.{List}
 use Prim.Native.Nat.{ℕ}
-use Rattle.exponents.specs.Outcome.{Refusal, RANGE, UNITS, Outcome, refused}
+use Rattle.exponents.specs.Outcome.{Refusal, UNITS, Outcome, refused}
 use Rattle.exponents.specs.declared.Exponent.{Exponent}
 use Rattle.exponents.proofs.Holds.{Holds, Only, only-out, take-out, either, bind-given, bind-refused}
+use Rattle.exponents.proofs.Halves.{OutOfRange}
 use Rattle.exponents.proofs.Value.{Value}
 use Rattle.exponents.proofs.Totals.{cancel}
 use Rattle.units.specs.declared.Factor.{Factor}
@@ -53,8 +54,8 @@ module _ (bs : List (ℕ → Exponent)) (own : List Factor) (target : Outcome (L
       (λ r e. g r (at-over ex e)))
       (λ r e. g r (at-own-base e))
 
-  -- they refuse only by RANGE, if the target does
-  pub stops-only : (S : Refusal → Type 0) → S RANGE → Only S target → {r : Refusal} → Stops bs own target r → S r
+  -- they refuse only what leaves the range, if the target does
+  pub stops-only : (S : Refusal → Type 0) → ((r : Refusal) → OutOfRange r → S r) → Only S target → {r : Refusal} → Stops bs own target r → S r
   stops-only S range h (at-own-base e) = only-out (base-only S range bs own) e
   stops-only S range h (at-over ex e) = only-out h e
   stops-only S range h (at-target-base {t = t} ex et e) = only-out (base-only S range bs t) e

@@ -1,15 +1,15 @@
--- Which refusals the steps of a conversion have: a canonical form and base exponents only RANGE, a scale only FRACTION, and that exactly where it is fractional.
+-- Which refusals the steps of a conversion have: a canonical form and base exponents only those of what leaves the range, a scale only FRACTION, and that exactly where it is fractional.
 use mathlib.Core.Path.{_≡_}
 use mathlib.Core.Bool.{Bool, true, false, _||_, _&&_, not}
 use mathlib.Core.List.{List, [], _∷_}
 use Prim.Native.Nat.{ℕ, Ordering, Ordering·lt, Ordering·eq, Ordering·gt}
 use native.Mathlib.Omega.{arith}
 use lib.Dec.{eqb}
-use Rattle.exponents.specs.Outcome.{Refusal, RANGE, UNITS, FRACTION, Outcome, given, refused, apply, bind, each}
+use Rattle.exponents.specs.Outcome.{Refusal, UNITS, FRACTION, Outcome, given, refused, apply, bind, each}
 use Rattle.exponents.specs.Fractions.{nought, sum?}
 use Rattle.exponents.specs.declared.Exponent.{Exponent}
 use Rattle.exponents.proofs.Holds.{Only, fine, only, only-map, only-bind}
-use Rattle.exponents.proofs.InRange.{ranged-only}
+use Rattle.exponents.proofs.Halves.{OutOfRange, by-numerator, by-denominator, ranged-only}
 use Rattle.units.specs.declared.Factor.{Factor}
 use Rattle.tables.specs.Lists.{baseAt, base}
 use Rattle.tables.specs.Scale.{raise, raisedTo, scaleFrom}
@@ -19,21 +19,23 @@ use Rattle.canonical.specs.Canonical.{place, insert, gather, canon}
 use Rattle.conversion.specs.Conversion.{rescaled}
 use Rattle.conversion.specs.Fractional.{fractional}
 
--- ---- an answer is no refusal, and RANGE, UNITS and FRACTION are three
+-- ---- an answer is no refusal, and those of what leaves the range, UNITS and FRACTION are others
 pub given-not-refused : {A : Type 0} {a : A} {r : Refusal} → given a ≡ refused r → ⊥
 given-not-refused e = let z : _≡_ {A = ℕ} 0 1 = cc in omega arith
 
-pub range-not-units : RANGE ≡ UNITS → ⊥
-range-not-units e = let z : _≡_ {A = ℕ} 0 1 = cc in omega arith
+pub range-not-units : (r : Refusal) → OutOfRange r → r ≡ UNITS → ⊥
+range-not-units r by-numerator e = let z : _≡_ {A = ℕ} 0 1 = cc in omega arith
+range-not-units r by-denominator e = let z : _≡_ {A = ℕ} 0 1 = cc in omega arith
 
-pub range-not-fraction : RANGE ≡ FRACTION → ⊥
-range-not-fraction e = let z : _≡_ {A = ℕ} 0 1 = cc in omega arith
+pub range-not-fraction : (r : Refusal) → OutOfRange r → r ≡ FRACTION → ⊥
+range-not-fraction r by-numerator e = let z : _≡_ {A = ℕ} 0 1 = cc in omega arith
+range-not-fraction r by-denominator e = let z : _≡_ {A = ℕ} 0 1 = cc in omega arith
 
 pub units-not-fraction : UNITS ≡ FRACTION → ⊥
 units-not-fraction e = let z : _≡_ {A = ℕ} 0 1 = cc in omega arith
 
--- ---- the ranged steps: if S holds of RANGE, they refuse only with what S holds of
-module _ (S : Refusal → Type 0) (range : S RANGE) where
+-- ---- the ranged steps: if S holds of what leaves the range, they refuse only with what S holds of
+module _ (S : Refusal → Type 0) (range : (r : Refusal) → OutOfRange r → S r) where
   pub sum-only : {A : Type 0} (term : A → Outcome Exponent) → ((a : A) → Only S (term a)) → (s : Exponent) (l : List A) → Only S (sum? term s l)
   unfolding sum?
   sum-only term h s [] = fine

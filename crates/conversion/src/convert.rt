@@ -1,4 +1,4 @@
-// A value converted from one resolved list to another (01, "Conversion, sums, comparison"): RANGE, then UNITS, then FRACTION.
+// A value converted from one resolved list to another (01, "Conversion, sums, comparison"): RANGE or DENOMINATOR, then UNITS, then FRACTION.
 ghost use mathlib.Core.Path.{_≡_};
 ghost use mathlib.Core.List.{List, _++_};
 ghost use Prim.Native.Nat.{ℕ};

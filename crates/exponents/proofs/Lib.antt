@@ -11,6 +11,7 @@ pub mod Ranged
 pub mod Multiples
 pub mod Exact
 pub mod InRange
+pub mod Halves
 pub mod Order
 pub mod Value
 pub mod Rationals

@@ -3,7 +3,7 @@ use mathlib.Core.Path.{_≡_, refl, sym, ap, _∙_}
 use mathlib.Core.Bool.{Bool, true, false}
 use Prim.Native.Nat.{ℕ, _<_}
 use native.Mathlib.Omega.{arith}
-use Rattle.exponents.specs.Outcome.{Refusal, TABLE, SHAPE, UNKNOWN, ROOM, RANGE, UNITS, FRACTION, DIVZERO, ZERONEG, NONWHOLE, NAN, FORMAT, number, Outcome, given, refused, unless, apply, refusalOf}
+use Rattle.exponents.specs.Outcome.{Refusal, TABLE, SHAPE, UNKNOWN, ROOM, RANGE, UNITS, FRACTION, DIVZERO, ZERONEG, NONWHOLE, NAN, FORMAT, DENOMINATOR, number, Outcome, given, refused, unless, apply, refusalOf}
 use Rattle.exponents.specs.Fractions.{neg, faulty}
 use Rattle.exponents.specs.Held.{neg?, fractionOf}
 use Rattle.exponents.specs.declared.Exponent.{Exponent}
@@ -24,6 +24,7 @@ number-pos ZERONEG = omega arith
 number-pos NONWHOLE = omega arith
 number-pos NAN = omega arith
 number-pos FORMAT = omega arith
+number-pos DENOMINATOR = omega arith
 
 -- o answers
 pub record Answers {A : Type 0} (o : Outcome A) : Type 0 where

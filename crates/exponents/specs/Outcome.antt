@@ -3,7 +3,7 @@ use mathlib.Core.Bool.{Bool, true, false}
 use mathlib.Core.List.{List, [], _∷_}
 use Prim.Native.Nat.{ℕ}
 
--- 01, "The refusals"; the last is 02's, order 1
+-- 01, "The refusals"; the last two are 02's, orders 1 and 2
 pub data Refusal : Type 0 where
   TABLE : Refusal
   SHAPE : Refusal
@@ -17,6 +17,7 @@ pub data Refusal : Type 0 where
   NONWHOLE : Refusal
   NAN : Refusal
   FORMAT : Refusal
+  DENOMINATOR : Refusal
 
 -- 01, "The refusals", and 02: the numbers
 abbrev pub number : Refusal → ℕ
@@ -32,6 +33,7 @@ number ZERONEG = 9
 number NONWHOLE = 10
 number NAN = 11
 number FORMAT = 12
+number DENOMINATOR = 13
 
 pub data Outcome (A : Type 0) : Type 0 where
   given : A → Outcome A

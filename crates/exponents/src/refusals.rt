@@ -9,7 +9,7 @@ pub const SHAPE: u32 = 2;
 pub const UNKNOWN: u32 = 3;
 // a product or quotient has over 16 factors before merging
 pub const ROOM: u32 = 4;
-// an exponent or a common multiple of denominators leaves its range
+// an exponent's numerator leaves its range
 pub const RANGE: u32 = 5;
 // unlike base exponents, nonzero value
 pub const UNITS: u32 = 6;
@@ -25,3 +25,5 @@ pub const NONWHOLE: u32 = 10;
 pub const NAN: u32 = 11;
 // a file that breaks the rules of a table file (02, order 1)
 pub const FORMAT: u32 = 12;
+// an exponent's denominator, with its numerator in range, or a common multiple of denominators leaves its range (02, order 2)
+pub const DENOMINATOR: u32 = 13;

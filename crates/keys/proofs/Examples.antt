@@ -3,7 +3,7 @@ use mathlib.Core.Path.{_≡_, refl}
 use mathlib.Core.List.{List, [], _∷_, map}
 use Prim.Native.Nat.{ℕ}
 use lib.IntN.{ℤ, pos, negsuc}
-use Rattle.exponents.specs.Outcome.{Outcome, given, refused, RANGE}
+use Rattle.exponents.specs.Outcome.{Outcome, given, refused, DENOMINATOR}
 use Rattle.exponents.specs.Held.{worked}
 use Rattle.exponents.specs.declared.Exponent.{Exponent}
 use Rattle.keys.specs.Key.{multiple, whole, wholes, divisor, below, turn, shrink, reduce, key, entry, entries}
@@ -31,7 +31,7 @@ rows =
     ∷ (none ∷ none ∷ none ∷ none ∷ [], given (pos 0 ∷ pos 0 ∷ pos 0 ∷ pos 0 ∷ []))
     ∷ (over (pos 2147483647) 1 ∷ over (pos 1) 2147483647 ∷ [], given (pos 4611686014132420609 ∷ pos 1 ∷ []))
     ∷ (over (negsuc 0) 65536 ∷ over (pos 1) 32767 ∷ [], given (pos 32767 ∷ negsuc 65535 ∷ []))
-    ∷ (over (pos 1) 65536 ∷ over (pos 1) 65537 ∷ [], refused RANGE)
+    ∷ (over (pos 1) 65536 ∷ over (pos 1) 65537 ∷ [], refused DENOMINATOR)
     ∷ []
 
 keys-known : map (λ (r : Row). key (r .0)) rows ≡ map (λ (r : Row). r .1) rows

@@ -10,15 +10,15 @@ use lib.ListN.{length, drop, getD, replicate}
 use lib.Signed.{quotZ, ltZ}
 use lib.Dec.{ltb}
 use borrow.Author.Tests.{ltb-false, le-ltb}
-use Rattle.exponents.specs.Outcome.{Outcome, given, refused, RANGE, unless, refusalOf, apply}
+use Rattle.exponents.specs.Outcome.{Outcome, given, refused, DENOMINATOR, unless, refusalOf, apply}
 use Rattle.exponents.specs.Gcd.{gcd, lcm}
 use Rattle.exponents.specs.Held.{withSign, xor, multipleOf}
-use Rattle.exponents.specs.Fractions.{most, lcm?}
+use Rattle.exponents.specs.Fractions.{most, denominatorBeyond, lcm?}
 use Rattle.exponents.specs.declared.Exponent.{Exponent}
 use Rattle.exponents.specs.declared.Multiple.the-variants.{Common, Refused}
 use Rattle.exponents.proofs.Divisors.{gcd-suc, gcd-zero}
 use Rattle.exponents.proofs.Exact.{natAbs-scale, quot-neg}
-use Rattle.exponents.proofs.Holds.{Holds, held, moot, bind-given, bind-refused}
+use Rattle.exponents.proofs.Holds.{Holds, held, holds-unless, bind-given, bind-refused}
 use Rattle.exponents.proofs.InRange.{or-left, or-right}
 use Rattle.exponents.proofs.Numbers.{Refuses}
 use Rattle.exponents.proofs.WithSign.{sign-scale}
@@ -42,17 +42,12 @@ common-refuses (refused r) n e = record { why = r; is = refl; numbered = cc }
 abbrev pub Denominator : ℕ → Type 0
 Denominator m = (1 ≤ m) × (m ≤ most)
 
-unless-range : (m : ℕ) (t : Bool) → (t ≡ false → Denominator m) → Holds Denominator (unless t RANGE (given m))
-unfolding unless
-unless-range m true h = moot
-unless-range m false h = held (h refl)
-
 -- what answers is a denominator again
 pub lcm-range : (a b : ℕ) → Holds Denominator (lcm? a b)
 unfolding lcm?
 lcm-range a b =
-    unless-range (lcm a b) _ λ e.
-    (ltb-false _ _ (or-left (ltb (lcm a b) 1) (ltb most (lcm a b)) e), ltb-false _ _ (or-right (ltb (lcm a b) 1) (ltb most (lcm a b)) e))
+    holds-unless (denominatorBeyond (lcm a b)) DENOMINATOR λ e.
+    held (ltb-false _ _ (or-left (ltb (lcm a b) 1) (ltb most (lcm a b)) e), ltb-false _ _ (or-right (ltb (lcm a b) 1) (ltb most (lcm a b)) e))
 
 -- a denominator 1 changes nothing
 pub lcm-one : (m : ℕ) → 1 ≤ m → m ≤ most → lcm? m 1 ≡ given m

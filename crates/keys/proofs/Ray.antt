@@ -1,6 +1,6 @@
 -- A row's base exponents are its key's numbers times one fraction that isn't zero: `key` divides by it.
 use mathlib.Core.Path.{_≡_, refl, sym, _∙_, ap, subst}
-use mathlib.Core.Bool.{Bool, true, false, _||_}
+use mathlib.Core.Bool.{Bool, true, false}
 use mathlib.Core.List.{List, [], _∷_}
 use Prim.Native.Nat.{ℕ, zero, suc, _*_, _/_, _<_, _≤_, _∣_}
 use native.Mathlib.Nat.{dvd-refl, dvd-trans, mul-div-cancel', zero-lt-suc, eq-zero-of-zero-dvd}
@@ -10,8 +10,8 @@ use lib.IntN.{ℤ, pos, negsuc, negℤ, natAbs, _*ℤ_, negℤ-negℤ}
 use lib.Signed.{quotZ}
 use borrow.Author.Tests.{ltb-false}
 use Rattle.exponents.specs.Gcd.{gcd, lcm}
-use Rattle.exponents.specs.Outcome.{RANGE}
-use Rattle.exponents.specs.Fractions.{lowest, most, lcm?}
+use Rattle.exponents.specs.Outcome.{DENOMINATOR}
+use Rattle.exponents.specs.Fractions.{lowest, most, denominatorBeyond, lcm?}
 use Rattle.exponents.specs.declared.Exponent.{Exponent}
 use Rattle.exponents.proofs.Divisors.{gcd-dvd, lcm-left, lcm-right}
 use Rattle.exponents.proofs.Exact as fl
@@ -34,7 +34,7 @@ pub record Common (a b n : ℕ) : Type 0 where
 pub lcm-common : (a b : ℕ) → Holds (Common a b) (lcm? a b)
 unfolding lcm?
 lcm-common a b =
-    holds-unless (ltb (lcm a b) 1 || ltb most (lcm a b)) RANGE λ e.
+    holds-unless (denominatorBeyond (lcm a b)) DENOMINATOR λ e.
     held (record { is = refl; some = ltb-false _ _ (or-left (ltb (lcm a b) 1) (ltb most (lcm a b)) e); small = ltb-false _ _ (or-right (ltb (lcm a b) 1) (ltb most (lcm a b)) e) })
 
 pub record Multiple (m : ℕ) (l : List Exponent) (n : ℕ) : Type 0 where

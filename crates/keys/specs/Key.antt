@@ -45,7 +45,7 @@ shrink s g (w ∷ l) = quotZ (turn s w) (pos g) ∷ shrink s g l
 unfoldable pub reduce : List ℤ → List ℤ
 reduce ws = shrink (below ws) (divisor 0 ws) ws
 
--- RANGE only of the common multiple
+-- DENOMINATOR only of the common multiple (02, order 2)
 unfoldable pub key : List Exponent → Outcome (List ℤ)
 key d = apply (λ m. reduce (wholes m d)) (multiple 1 d)
 

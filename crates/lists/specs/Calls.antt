@@ -33,7 +33,7 @@ module _ (t : Rows) where
   unfoldable pub canonical : Factors → Outcome (List Factor)
   canonical a = bind (table t) (λ ks. bind (checked (length ks) a) (λ fs. canon (rulesIn t ks .order) fs))
 
-  -- is the canonical form the same? RANGE of the first, then of the second
+  -- is the canonical form the same? RANGE or DENOMINATOR of the first, then of the second
   unfoldable pub sameLists : Factors → Factors → Outcome Bool
   sameLists a b = bind (table t) (λ ks. bind (both (length ks) a b) (λ p. equality.equal (rulesIn t ks .order) (p .0) (p .1)))
 

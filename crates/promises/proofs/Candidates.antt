@@ -1,12 +1,13 @@
--- What `full_simplify_with` answers (demand 3): in an admitted table a quantity with the base exponents of the given one, whatever the candidates. It is refused by RANGE and FRACTION alone once the candidates are taken, and whatever they are never by UNITS.
+-- What `full_simplify_with` answers (demand 3): in an admitted table a quantity with the base exponents of the given one, whatever the candidates. It is refused by what leaves the range and by FRACTION alone once the candidates are taken, and whatever they are never by UNITS.
 use mathlib.Core.Path.{_≡_, sym, _∙_, subst}
 use mathlib.Core.Bool.{true, false}
 use mathlib.Core.List.{List, [], _∷_}
 use Prim.Native.Nat.{ℕ, suc}
 use lib.ListN.{length, take}
 use Rattle.exponents.specs.Words.{pick}
-use Rattle.exponents.specs.Outcome.{RANGE, FRACTION, Refusal, SHAPE, UNKNOWN, UNITS, given, refused, apply, bind}
-use Rattle.exponents.proofs.Holds.{Holds, Only, fine, holds-any, holds-imp, holds-map, holds-bind, only-map, only-bind, bind-given}
+use Rattle.exponents.specs.Outcome.{FRACTION, Refusal, SHAPE, UNKNOWN, UNITS, given, refused, apply, bind}
+use Rattle.exponents.proofs.Holds.{Holds, Only, fine, only-unless, holds-any, holds-imp, holds-map, holds-bind, only-map, only-bind, bind-given}
+use Rattle.exponents.proofs.Halves.{OutOfRange}
 use Rattle.exponents.proofs.Rationals.{value}
 use Rattle.floats.specs.Values.{isZero}
 use Rattle.units.specs.declared.Factor.{Factor}
@@ -28,18 +29,18 @@ use Rattle.registry.specs.Registry.{listsFrom, candidateLists, registered}
 use Rattle.registry.specs.Calls.{fullSimplifyWith}
 use Rattle.registry.proofs.Upheld.{registered-keeps, registered-only}
 use Rattle.promises.proofs.Simplification.{KeepsBase, made-keeps, same, shape-not-units, unknown-not-units, table-not-units, list-not-units}
-use Rattle.promises.proofs.Unadmitted.{unless-only, checked-only}
+use Rattle.promises.proofs.Unadmitted.{checked-only}
 
 -- ---- candidates are refused by SHAPE and UNKNOWN only
 module _ (S : Refusal → Type 0) (shape : S SHAPE) (un : S UNKNOWN) (rows : ℕ) where
   lists-only : (least : ℕ) (cs : List Candidate) → Only S (listsFrom rows least cs)
   unfolding listsFrom
   lists-only least [] = fine
-  lists-only least (c ∷ cs) = unless-only S _ SHAPE shape (only-bind _ _ (checked-only S shape un rows (c .unit)) λ fs _. only-map _ (lists-only (suc (c .rank)) cs))
+  lists-only least (c ∷ cs) = only-unless _ SHAPE shape (only-bind _ _ (checked-only S shape un rows (c .unit)) λ fs _. only-map _ (lists-only (suc (c .rank)) cs))
 
   pub candidates-only : (c : Candidates) → Only S (candidateLists rows c)
   unfolding candidateLists
-  candidates-only c = unless-only S _ SHAPE shape (lists-only 0 (take (c .len) (c .at)))
+  candidates-only c = only-unless _ SHAPE shape (lists-only 0 (take (c .len) (c .at)))
 
 -- q is a quantity of the admitted table t, fs its list
 module _ (t : Rows) (ks : List Facts) (k : table t ≡ given ks) (q : Quantity) (fs : List Factor) (h : checked (length ks) (q .unit) ≡ given fs) (c : Candidates) where
@@ -58,8 +59,8 @@ module _ (t : Rows) (ks : List Facts) (k : table t ≡ given ks) (q : Quantity) 
       λ b r. made-keeps t ks k q fs h true (b .0) (b .1) r)
       (same t ks k q fs h))
 
-  -- THEOREM: with candidates that are taken it answers, or is refused by RANGE or FRACTION
-  pub refuses : (ms : List (List Factor)) → candidateLists (length ks) c ≡ given ms → (S : Refusal → Type 0) → S RANGE → S FRACTION → Only S (fullSimplifyWith t q c)
+  -- THEOREM: with candidates that are taken it answers, or is refused by what leaves the range or by FRACTION
+  pub refuses : (ms : List (List Factor)) → candidateLists (length ks) c ≡ given ms → (S : Refusal → Type 0) → ((r : Refusal) → OutOfRange r → S r) → S FRACTION → Only S (fullSimplifyWith t q c)
   refuses ms e S range fraction =
       subst (λ o. Only S o) (sym (goes ∙ bind-given _ e))
       (either-only S (q .mark) (only-map _ (only-bind _ _ (simplify-only-in t ks k (q .unit) fs h (q .value) S range fraction) λ a _. registered-only t ks k ms a S range fraction)) fine)

@@ -1,13 +1,11 @@
--- What `convert_to` answers (demand 3), in an admitted table and between lists that are checked: the conversion of the value, in the target list as it is spelled, with a fresh mark.
+-- What `convert_to` answers (demand 3), in an admitted table and between lists that are checked: the conversion of the value, in the target list as it is spelled, with a fresh mark. What leaves the range is refused as `halves/proofs/Stopped` says.
 use mathlib.Core.Path.{_≡_, sym, _∙_, ap, subst}
 use mathlib.Core.Logic.{_↔_}
 use mathlib.Core.Bool.{Bool, _||_}
 use mathlib.Core.List.{List}
-use Prim.Native.Nat.{ℕ}
-use native.Mathlib.Omega.{arith}
 use lib.Ieee.{Float}
 use lib.ListN.{length}
-use Rattle.exponents.specs.Outcome.{Refusal, RANGE, UNITS, Outcome, given, refused, apply}
+use Rattle.exponents.specs.Outcome.{Refusal, UNITS, Outcome, given, refused, apply}
 use Rattle.exponents.specs.declared.Exponent.{Exponent}
 use Rattle.exponents.proofs.Holds.{bind-given}
 use Rattle.exponents.proofs.Rationals.{value}
@@ -28,14 +26,7 @@ use Rattle.conversion.proofs.Cases as cases
 use Rattle.conversion.proofs.Faithful as laws
 use Rattle.values.specs.Quantities.{fresh}
 use Rattle.quantities.specs.Calls.{convertTo}
-
--- a refusal goes through, and nothing else gives one
-map-refused : {A B : Type 0} (f : A → B) (o : Outcome A) (r : Refusal) → (apply f o ≡ refused r) ↔ (o ≡ refused r)
-map-refused f (given a) r = (λ e. absurd (let z : _≡_ {A = ℕ} 0 1 = cc in omega arith), λ e. absurd (let z : _≡_ {A = ℕ} 0 1 = cc in omega arith))
-map-refused f (refused s) r = (λ e. let z : s ≡ r = cc in ap refused z, λ e. let z : s ≡ r = cc in ap refused z)
-
-through : {A B C : Type 0} → A ↔ B → B ↔ C → A ↔ C
-through p q = (λ a. q .0 (p .0 a), λ c. p .1 (q .1 c))
+use Rattle.halves.proofs.First.{through, apply-exactly}
 
 -- q is a quantity of the admitted table t and m a list of it; fs and gs are the two lists
 module _ (t : Rows) (ks : List Facts) (k : table t ≡ given ks) (q : Quantity) (m : Factors) (fs gs : List Factor) (h : both (length ks) (q .unit) m ≡ given (fs, gs)) where
@@ -64,11 +55,7 @@ module _ (t : Rows) (ks : List Facts) (k : table t ≡ given ks) (q : Quantity) 
   converts c = goes ∙ ap (apply inTarget) (laws.faithful rules value (orderIn-total ks) fs gs (q .value) c)
 
   refuses : (r : Refusal) → (convertTo t q m ≡ refused r) ↔ (convert rules fs gs (q .value) ≡ refused r)
-  refuses r = through (λ e. sym goes ∙ e, λ e. goes ∙ e) (map-refused inTarget (convert rules fs gs (q .value)) r)
-
-  -- RANGE exactly where one of the five ranged steps refuses
-  pub range-exactly : (convertTo t q m ≡ refused RANGE) ↔ cases.Stopped rules value fs gs (q .value) RANGE
-  range-exactly = through (refuses RANGE) (laws.range-exactly rules value (orderIn-total ks) fs gs (q .value))
+  refuses r = through (λ e. sym goes ∙ e, λ e. goes ∙ e) (apply-exactly inTarget (convert rules fs gs (q .value)) r)
 
   -- the value is nonzero, the lists are unequal, and all five steps answer
   module _ {cl cm l : List Factor} {x y : List Exponent} (s : cases.Reduced rules value fs gs (q .value) cl cm x l y) where

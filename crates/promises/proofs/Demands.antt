@@ -10,11 +10,12 @@ use lib.Ieee.{Float, mul, div, lt}
 use lib.Ieee as ieee
 use lib.ListN.{length, getD}
 use Rattle.exponents.specs.Words.{All}
-use Rattle.exponents.specs.Outcome.{Refusal, RANGE, UNITS, FRACTION, Outcome, given, refused, apply, each}
+use Rattle.exponents.specs.Outcome.{Refusal, UNITS, FRACTION, Outcome, given, refused, apply, each}
 use Rattle.exponents.specs.Fractions.{faulty}
 use Rattle.exponents.specs.declared.Exponent.{Exponent}
 use Rattle.exponents.proofs.Holds.{one-answer, Holds, Only, take-out, bind-given}
 use Rattle.exponents.proofs.InRange.{sound}
+use Rattle.exponents.proofs.Halves.{OutOfRange}
 use Rattle.exponents.proofs.Rationals.{value}
 use Rattle.floats.specs.Values.{isZero}
 use Rattle.units.specs.declared.Factor.{Factor}
@@ -181,8 +182,8 @@ module _ (t : Rows) (ks : List Facts) (k : table t ≡ given ks) where
     pub simplify-same : isZero (q .value) ≡ false → (p : Quantity) → fullSimplify t q ≡ given p → (xs ys : List Exponent) → Has fs xs → Has (listOf (p .unit)) ys → xs ≡ ys
     simplify-same n p e xs ys a b = agree-is (rules .bases) fs (listOf (p .unit)) xs ys a b (take-out (simplify-keeps n) e)
 
-    -- it is refused by RANGE and FRACTION alone
-    pub simplify-refused : (S : Refusal → Type 0) → S RANGE → S FRACTION → Only S (fullSimplify t q)
+    -- it is refused by what leaves the range and by FRACTION alone
+    pub simplify-refused : (S : Refusal → Type 0) → ((r : Refusal) → OutOfRange r → S r) → S FRACTION → Only S (fullSimplify t q)
     simplify-refused = simplification.refuses t ks k q fs h
 
   -- ---- what the sentences rest on: base units are told apart

@@ -1,6 +1,7 @@
 pub mod Saying
 pub mod Bench
 pub mod Pinned
+pub mod Halving
 pub mod Conversion
 pub mod Products
 pub mod Unadmitted

@@ -1,4 +1,4 @@
--- Demand 3 at two calls as they ship, by the transport: `convert_to` and `full_simplify`, over lent rows and as exported functions.
+-- Demand 3 at two calls as they ship, by the transport: `convert_to` and `full_simplify`, over lent rows and as exported functions; and which half of a fraction left its range (02, order 2), as `convert_to` tells it.
 use mathlib.Core.Path.{_≡_}
 use mathlib.Core.Bool.{false}
 use mathlib.Core.Logic.{_↔_}
@@ -7,9 +7,11 @@ use Prim.Native.Nat.{ℕ, _≤_}
 use lib.Ieee.{Float, mul, div}
 use lib.Ieee as ieee
 use lib.ListN.{length}
-use Rattle.exponents.specs.Outcome.{UNITS, Outcome, given, refused}
+use Rattle.exponents.specs.Outcome.{Refusal, UNITS, DENOMINATOR, Outcome, given, refused}
 use Rattle.exponents.specs.declared.Exponent.{Exponent}
 use Rattle.exponents.proofs.Holds.{Holds}
+use Rattle.exponents.proofs.Halves.{OutOfRange}
+use Rattle.exponents.proofs.Rationals.{value}
 use Rattle.floats.specs.Values.{isZero}
 use Rattle.units.specs.declared.Factor.{Factor}
 use Rattle.units.specs.declared.Factors.{Factors}
@@ -19,12 +21,17 @@ use Rattle.units.specs.declared.Rows.{Rows}
 use Rattle.units.specs.Lists.{listOf, checked, both}
 use Rattle.lent.specs.Lent.{lentRows}
 use Rattle.tables.specs.Rows.{Facts, table}
+use Rattle.tables.specs.Rules.{rulesIn}
 use Rattle.lists.specs.Calls.{sameLists}
 use Rattle.common.specs.Common.{common, over}
+use Rattle.conversion.proofs.Cases.{Stopped}
 use Rattle.values.specs.Quantities.{fresh, answeredOf}
 use Rattle.values.specs.declared.answers.Answer.{Answer}
 use Rattle.quantities.specs.Calls.{convertTo}
 use Rattle.simplification.specs.Calls.{fullSimplify}
+use Rattle.halves.specs.Wholes.{WholeList, WholeRows}
+use Rattle.halves.proofs.Stopped.{convert-stops}
+use Rattle.halves.proofs.WholeCalls.{convert-never}
 use Rattle.wire.specs.Arguments.{tableFrom, quantityFrom, listFrom}
 use Rattle.askvalues.specs.Calls as askvalues
 use Rattle.asksimplify.specs.Calls as asksimplify
@@ -54,6 +61,17 @@ module _ (rs : List Row) (ks : List Facts) (k : table (lentRows rs) ≡ given ks
   pub lent-converts : Converts (lentRows rs) ks k q m fs gs h nonzero unequal s (outcomeIn r)
   lent-converts = over-rows (Converts (lentRows rs) ks k q m fs gs h nonzero unequal s) (convertTo (lentRows rs) q m) (converts (lentRows rs) ks k q m fs gs h nonzero unequal s) r contract
 
+-- ---- what `convert_to` tells of what leaves the range
+module _ (rs : List Row) (q : Quantity) (m : Factors) (r : Answer) (contract : r ≡ answeredOf (convertTo (lentRows rs) q m)) where
+  -- exactly where one of the five steps does, with the refusal of the first
+  pub lent-stops : (ks : List Facts) → table (lentRows rs) ≡ given ks → (fs gs : List Factor) → both (length ks) (q .unit) m ≡ given (fs, gs) →
+      (w : Refusal) → OutOfRange w → (outcomeIn r ≡ refused w) ↔ Stopped (rulesIn (lentRows rs) ks) value fs gs (q .value) w
+  lent-stops ks k fs gs h w range = over-rows (λ o. (o ≡ refused w) ↔ Stopped (rulesIn (lentRows rs) ks) value fs gs (q .value) w) (convertTo (lentRows rs) q m) (convert-stops (lentRows rs) ks k q m fs gs h w range) r contract
+
+  -- where every denominator given is 1, never DENOMINATOR
+  pub lent-never : WholeRows (lentRows rs) → WholeList (q .unit) → WholeList m → outcomeIn r ≡ refused DENOMINATOR → ⊥
+  lent-never w a b = over-rows (λ o. o ≡ refused DENOMINATOR → ⊥) (convertTo (lentRows rs) q m) (convert-never (lentRows rs) w q a m b) r contract
+
 -- as an exported function, over the bytes of a table, a quantity and a list: it returned n and left `end` in the room, by its contract
 module _ (tb qb mb : List ℕ) where
   abbrev t : Rows
@@ -73,6 +91,17 @@ module _ (tb qb mb : List ℕ) where
       unfolding askvalues.convertTo
       exported-converts =
           over-bytes (Converts t ks k q m fs gs h nonzero unequal s) (convertTo t q m) (converts t ks k q m fs gs h nonzero unequal s) (convert-fits t q (read-fits qb) m) room long n end contract
+
+    module _ (contract : Exported room (askvalues.convertTo tb qb mb) n end) where
+      pub exported-stops : (ks : List Facts) → table t ≡ given ks → (fs gs : List Factor) → both (length ks) (q .unit) m ≡ given (fs, gs) →
+          (w : Refusal) → OutOfRange w → (outcomeFrom n end ≡ refused w) ↔ Stopped (rulesIn t ks) value fs gs (q .value) w
+      unfolding askvalues.convertTo
+      exported-stops ks k fs gs h w range =
+          over-bytes (λ o. (o ≡ refused w) ↔ Stopped (rulesIn t ks) value fs gs (q .value) w) (convertTo t q m) (convert-stops t ks k q m fs gs h w range) (convert-fits t q (read-fits qb) m) room long n end contract
+
+      pub exported-never : WholeRows t → WholeList (q .unit) → WholeList m → outcomeFrom n end ≡ refused DENOMINATOR → ⊥
+      unfolding askvalues.convertTo
+      exported-never w a b = over-bytes (λ o. o ≡ refused DENOMINATOR → ⊥) (convertTo t q m) (convert-never t w q a m b) (convert-fits t q (read-fits qb) m) room long n end contract
 
     -- ---- `full_simplify` of a nonzero value, if it answers, keeps base exponents
     module _ (ks : List Facts) (k : table t ≡ given ks) (fs : List Factor) (h : checked (length ks) (q .unit) ≡ given fs) (nonzero : isZero (q .value) ≡ false) (contract : Exported room (asksimplify.fullSimplify tb qb) n end) where

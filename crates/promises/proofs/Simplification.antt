@@ -1,4 +1,4 @@
--- What `full_simplify` answers (demand 3): in an admitted table a quantity with the base exponents of the given one, whatever the step that made it. It is refused by RANGE and FRACTION alone, and whatever the table never by UNITS.
+-- What `full_simplify` answers (demand 3): in an admitted table a quantity with the base exponents of the given one, whatever the step that made it. It is refused by what leaves the range and by FRACTION alone, and whatever the table never by UNITS.
 use mathlib.Core.Path.{_≡_, sym, _∙_, subst}
 use mathlib.Core.Bool.{Bool, true, false}
 use mathlib.Core.List.{List}
@@ -7,8 +7,9 @@ use native.Mathlib.Omega.{arith}
 use lib.Ieee.{Float}
 use lib.ListN.{length}
 use Rattle.exponents.specs.Words.{pick}
-use Rattle.exponents.specs.Outcome.{Refusal, RANGE, FRACTION, SHAPE, UNKNOWN, UNITS, given, refused, apply}
+use Rattle.exponents.specs.Outcome.{Refusal, FRACTION, SHAPE, UNKNOWN, UNITS, given, refused, apply}
 use Rattle.exponents.proofs.Holds.{Holds, held, Only, fine, holds-map, only-map, only-bind, bind-given}
+use Rattle.exponents.proofs.Halves.{OutOfRange}
 use Rattle.exponents.proofs.Rationals.{value}
 use Rattle.floats.specs.Values.{isZero}
 use Rattle.units.specs.declared.Factor.{Factor}
@@ -52,8 +53,8 @@ module _ (t : Rows) (ks : List Facts) (k : table t ≡ given ks) (q : Quantity) 
       subst (λ o. Holds KeepsBase o) (sym goes)
       (pick-is (Holds KeepsBase) (q .mark) (holds-map quantityOf (simplified-keeps t ks k (q .unit) fs h (q .value) n) λ a e. made-keeps true (a .0) (a .1) e) same)
 
-  -- THEOREM: it answers, or is refused by RANGE or FRACTION: by a step that leaves the range, or a fractional scale
-  pub refuses : (S : Refusal → Type 0) → S RANGE → S FRACTION → Only S (fullSimplify t q)
+  -- THEOREM: it answers, or is refused by a step that leaves the range, or by FRACTION: a fractional scale
+  pub refuses : (S : Refusal → Type 0) → ((r : Refusal) → OutOfRange r → S r) → S FRACTION → Only S (fullSimplify t q)
   refuses S range fraction = subst (λ o. Only S o) (sym goes) (either-only S (q .mark) (only-map _ (simplify-only-in t ks k (q .unit) fs h (q .value) S range fraction)) fine)
 
   -- without the mark a quantity is unchanged, a zero too

@@ -1,12 +1,11 @@
--- Which refusals a table and a list have (01, "The refusals"): TABLE, SHAPE, RANGE and FRACTION the one, SHAPE and UNKNOWN the other.
-use mathlib.Core.Bool.{Bool, true, false}
+-- Which refusals a table and a list have (01, "The refusals"): TABLE, SHAPE, those of what leaves the range and FRACTION the one, SHAPE and UNKNOWN the other.
 use mathlib.Core.List.{List, [], _∷_, _++_}
 use Prim.Native.Nat.{ℕ}
 use lib.Dec.{ltb}
-use Rattle.exponents.specs.Outcome.{Refusal, TABLE, SHAPE, UNKNOWN, RANGE, FRACTION, Outcome, given, refused, unless}
-use Rattle.exponents.specs.Fractions.{lcm?}
+use Rattle.exponents.specs.Outcome.{Refusal, TABLE, SHAPE, UNKNOWN, DENOMINATOR, FRACTION, Outcome, given, refused}
 use Rattle.exponents.specs.declared.Exponent.{Exponent}
-use Rattle.exponents.proofs.Holds.{Only, fine, only, only-map, only-bind}
+use Rattle.exponents.proofs.Holds.{Only, fine, only, only-unless, only-map, only-bind}
+use Rattle.exponents.proofs.Halves.{OutOfRange, by-denominator, lcm-only}
 use Rattle.floats.specs.Power.{one}
 use Rattle.units.specs.declared.Factors.{Factors}
 use Rattle.units.specs.declared.Kind.{Kind}
@@ -23,22 +22,17 @@ use Rattle.conversion.proofs.Refusals.{base-only, fraction-only, scale-is}
 
 -- S holds of what they refuse by
 module _ (S : Refusal → Type 0) where
-  pub unless-only : {A : Type 0} (b : Bool) (r : Refusal) {o : Outcome A} → S r → Only S o → Only S (unless b r o)
-  unfolding unless
-  unless-only true r h p = only h
-  unless-only false r h p = p
-
   -- ---- a list
   pub checked-only : S SHAPE → S UNKNOWN → (rows : ℕ) (l : Factors) → Only S (checked rows l)
   unfolding checked
-  checked-only shape un rows l = unless-only _ SHAPE shape (unless-only _ UNKNOWN un fine)
+  checked-only shape un rows l = only-unless _ SHAPE shape (only-unless _ UNKNOWN un fine)
 
   -- ---- a table
-  module _ (tab : S TABLE) (shape : S SHAPE) (range : S RANGE) (frac : S FRACTION) (t : Rows) where
+  module _ (tab : S TABLE) (shape : S SHAPE) (range : (r : Refusal) → OutOfRange r → S r) (frac : S FRACTION) (t : Rows) where
     multiple-only : (m : ℕ) (l : List Exponent) → Only S (multiple m l)
-    unfolding multiple lcm?
+    unfolding multiple
     multiple-only m [] = fine
-    multiple-only m (x ∷ l) = only-bind _ _ (unless-only _ RANGE range fine) λ n _. multiple-only n l
+    multiple-only m (x ∷ l) = only-bind _ _ (lcm-only S (range DENOMINATOR by-denominator) m (x .den)) λ n _. multiple-only n l
 
     exps-only : (k : Kind) (ss : List Slot) (js : List Facts) (r : Row) → Only S (rowExps k ss js r)
     unfolding rowExps
@@ -53,7 +47,7 @@ module _ (S : Refusal → Type 0) where
     facts-only : (ss : List Slot) (js : List Facts) (r : Row) → Only S (rowFacts ss js r)
     unfolding rowFacts workedOut key
     facts-only ss js r =
-        unless-only _ TABLE tab (unless-only _ SHAPE shape
+        only-unless _ TABLE tab (only-unless _ SHAPE shape
         (only-bind _ _ (exps-only (r .kind) ss js r) λ e _.
         only-bind _ _ (only-map _ (multiple-only 1 e)) λ k _.
         only-bind _ _ (scale-only (r .kind) js r) λ s _. fine))

@@ -34,7 +34,7 @@ multipleOf xs ys =
     (pick (allNought xs || same (getD ys (firstBase xs) nought) nought) (given none)
     (bind (div? (getD xs (firstBase xs) nought) (getD ys (firstBase xs) nought)) (fits xs ys)))
 
--- of two lists: RANGE of a's base exponents, then of b's
+-- of two lists: RANGE or DENOMINATOR of a's base exponents, then of b's
 unfoldable pub isMultiple : List (ℕ → Exponent) → List Factor → List Factor → Outcome Maybe
 isMultiple bs fs gs = bind (base bs fs) (λ xs. bind (base bs gs) (λ ys. multipleOf xs ys))
 

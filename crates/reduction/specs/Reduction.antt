@@ -31,11 +31,11 @@ reduced ss es = nonzero (baseFactors ss es)
 
 -- by the rules R
 module _ (R : Rules Float) where
-  -- a list reduced, with its scale: RANGE, then FRACTION
+  -- a list reduced, with its scale: RANGE or DENOMINATOR, then FRACTION
   unfoldable pub reduction : List Slot → List Factor → Outcome (List Factor × Float)
   reduction ss l = bind (base (R .bases) l) (λ es. apply (λ s. (reduced ss es, s)) (scaleBy R l))
 
-  -- the scale of a list that is reduced: RANGE of its base exponents, FRACTION of its scale
+  -- the scale of a list that is reduced: RANGE or DENOMINATOR of its base exponents, FRACTION of its scale
   unfoldable pub reducedScale : List Factor → Outcome Float
   reducedScale l = bind (base (R .bases) l) (λ es. scaleBy R l)
 

@@ -45,7 +45,7 @@ pub fn multiplied(y: Exponent, q: Exponent) -> Fraction
     exponents::product(y, q)
 }
 
-// q, if b's times q are a's. RANGE beats none: every product is worked out.
+// q, if b's times q are a's. What leaves the range beats none: every product is worked out.
 fn fits(a: [Exponent; 16], b: [Exponent; 16], q: Exponent) -> Multiple
     ensures { λ r. ⌜ (isFaulty q ≡ false → r ≡ multipleIs (fitsBy a b q)) ⌝ }
 {
@@ -96,7 +96,7 @@ fn multiple_of(a: [Exponent; 16], b: [Exponent; 16]) -> Multiple
     }
 }
 
-// Where there are n base rows: RANGE of a's base exponents, of b's, then of the quotient and the products.
+// Where there are n base rows: RANGE or DENOMINATOR of a's base exponents, of b's, then of the quotient and the products.
 pub fn is_multiple_of(a: Items, b: Items, n: usize, nums: &[i32], dens: &[u32]) -> Multiple
     ensures { λ r. ⌜ ((v : View) (fs gs : List Factorᵛ) → Lends v n (now (nums .entry)) (now (dens .entry)) → Resolved v a fs → Resolved v b gs → r ≡ multipleIs (isMultiple (viewBases v n) fs gs)) ⌝ }
 {

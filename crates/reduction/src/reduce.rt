@@ -73,7 +73,7 @@ pub fn not_reduced(refusal: u32) -> Reduced
     }
 }
 
-// A list reduced: RANGE of its base exponents, then FRACTION of its scale.
+// A list reduced: RANGE or DENOMINATOR of its base exponents, then FRACTION of its scale.
 pub fn reduce_list(l: Items, slots: Slots, nums: &[i32], dens: &[u32]) -> Reduced
     ensures { λ r. ⌜ ((v : View) (fs : List Factorᵛ) (ss : List Slotᵛ) → Lends v (length ss) (now (nums .entry)) (now (dens .entry)) → Resolved v l fs → slots ≡ packSlots ss → r ≡ reducedOf (reductionOf (rulesBy v (length ss)) ss fs)) ⌝ }
 {
@@ -96,7 +96,7 @@ pub fn reduce_list(l: Items, slots: Slots, nums: &[i32], dens: &[u32]) -> Reduce
     }
 }
 
-// The scale of a list, after RANGE of its base exponents.
+// The scale of a list, after RANGE or DENOMINATOR of its base exponents.
 fn reduced_scale(l: Items, n: usize, nums: &[i32], dens: &[u32]) -> Scaled
     ensures { λ r. ⌜ ((v : View) (fs : List Factorᵛ) → Lends v n (now (nums .entry)) (now (dens .entry)) → Resolved v l fs → r ≡ scaledOf (reducedScale (rulesBy v n) fs)) ⌝ }
 {

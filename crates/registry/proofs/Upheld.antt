@@ -1,4 +1,4 @@
--- What the registry form makes of what is left (01, "Simplification") keeps its base exponents, a zero's too, is refused by RANGE and FRACTION alone and has at most 16 factors: a candidate is taken only if its base exponents are those of what is left, and the single base unit has them.
+-- What the registry form makes of what is left (01, "Simplification") keeps its base exponents, a zero's too, is refused by what leaves the range and by FRACTION alone and has at most 16 factors: a candidate is taken only if its base exponents are those of what is left, and the single base unit has them.
 use mathlib.Core.Path.{_≡_, refl, sym}
 use mathlib.Core.Bool.{Bool, true, false, _&&_, true≢false}
 use mathlib.Core.List.{List, [], _∷_}
@@ -6,9 +6,10 @@ use Prim.Native.Nat.{ℕ}
 use lib.Dec.{ltb, eqb}
 use lib.Ieee.{Float}
 use lib.ListN.{length}
-use Rattle.exponents.specs.Outcome.{Refusal, RANGE, FRACTION, Outcome, given, apply}
+use Rattle.exponents.specs.Outcome.{Refusal, FRACTION, Outcome, given, apply}
 use Rattle.exponents.specs.declared.Exponent.{Exponent}
 use Rattle.exponents.proofs.Holds.{holds-all, Holds, held, Only, fine, take-out, holds-any, holds-eq, holds-imp, holds-map, holds-bind, only-map, only-bind}
+use Rattle.exponents.proofs.Halves.{OutOfRange}
 use Rattle.exponents.proofs.Rationals.{value}
 use Rattle.units.specs.declared.Factor.{Factor}
 use Rattle.units.specs.declared.Factors.{Factors}
@@ -113,8 +114,8 @@ module _ (R : Rules Float) (now : Amount) where
         none : Holds (λ fits. fits ≡ true → Agree value (R .bases) (now .1) m) (given false)
         none = held λ h. absurd (true≢false (sym h))
 
-    -- ---- refused by RANGE and FRACTION alone
-    module _ (O : Total (R .order)) (S : Refusal → Type 0) (range : S RANGE) (fraction : S FRACTION) (s : Float) where
+    -- ---- refused by what leaves the range and by FRACTION alone
+    module _ (O : Total (R .order)) (S : Refusal → Type 0) (range : (r : Refusal) → OutOfRange r → S r) (fraction : S FRACTION) (s : Float) where
       fitting-only : (n : ℕ) (m : List Factor) → Only S (fitting R n xs s m)
       unfolding fitting
       fitting-only n m =
@@ -148,7 +149,7 @@ module _ (R : Rules Float) (now : Amount) where
     keeps-by = registered-has (λ a. Agree value (R .bases) (now .1) (a .1)) ss ms (agree-self value (R .bases) (now .1)) λ xs e.
         (on-list (Agree value (R .bases) (now .1)) (reduced ss xs) (same xs e), λ s. every ms λ m. holds-imp (fitting-agrees xs e s m) λ fits f k. on-list (Agree value (R .bases) (now .1)) m (f k))
 
-    pub only-by : Total (R .order) → (S : Refusal → Type 0) → S RANGE → S FRACTION → Only S (registered R ss ms now)
+    pub only-by : Total (R .order) → (S : Refusal → Type 0) → ((r : Refusal) → OutOfRange r → S r) → S FRACTION → Only S (registered R ss ms now)
     unfolding registered settled
     only-by O S range fraction =
         either-only S (ltb 1 (length (now .1)))
@@ -165,8 +166,8 @@ module _ (t : Rows) (ks : List Facts) (k : table t ≡ given ks) (ms : List (Lis
   pub registered-keeps : Holds (λ a. Agree value (rulesIn t ks .bases) (now .1) (a .1)) (registered (rulesIn t ks) (baseRows t) ms now)
   registered-keeps = keeps-by (rulesIn t ks) now (baseRows t) ms (reduced-agrees t ks (admits t ks k) (now .1))
 
-  -- THEOREM: refused by RANGE and FRACTION alone
-  pub registered-only : (S : Refusal → Type 0) → S RANGE → S FRACTION → Only S (registered (rulesIn t ks) (baseRows t) ms now)
+  -- THEOREM: refused by what leaves the range and by FRACTION alone
+  pub registered-only : (S : Refusal → Type 0) → ((r : Refusal) → OutOfRange r → S r) → S FRACTION → Only S (registered (rulesIn t ks) (baseRows t) ms now)
   registered-only = only-by (rulesIn t ks) now (baseRows t) ms (reduced-agrees t ks (admits t ks k) (now .1)) (orderIn-total ks)
 
 -- ---- the candidates' lists: what holds of a list that passed

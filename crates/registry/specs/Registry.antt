@@ -99,7 +99,7 @@ module _ (R : Rules Float) where
       (apply (λ x. (x, reduced ss xs)) (convert R (now .1) (reduced ss xs) (now .0)))
       (chosen xs s now now ms)
 
-  -- for two or more factors left: RANGE of their base exponents, FRACTION of their scale, before any test
+  -- for two or more factors left: RANGE or DENOMINATOR of their base exponents, FRACTION of their scale, before any test
   unfoldable pub registered : List Slot → List (List Factor) → Amount → Outcome Amount
   registered ss ms now =
       pick (ltb 1 (length (now .1)))

@@ -5,8 +5,9 @@ use mathlib.Core.List.{List, [], _∷_, _++_, flatten, append-assoc, append-nil}
 use Prim.Native.Nat.{_<_}
 use lib.Ieee.{Float}
 use lib.ListN.{length}
-use Rattle.exponents.specs.Outcome.{Refusal, RANGE, UNITS, FRACTION, given, refused}
+use Rattle.exponents.specs.Outcome.{Refusal, UNITS, FRACTION, given, refused}
 use Rattle.exponents.proofs.Holds.{holds-all, Holds, Only, take-out, holds-any, holds-eq, holds-imp, holds-both, holds-map, holds-bind}
+use Rattle.exponents.proofs.Halves.{OutOfRange}
 use Rattle.exponents.proofs.Rationals.{value}
 use Rattle.floats.specs.Power.{one}
 use Rattle.floats.specs.Values.{isZero}
@@ -110,8 +111,8 @@ module _ (t : Rows) (ks : List Facts) (k : table t ≡ given ks) where
     pub rows-known : All (Known ks) fs
     rows-known = all-imp fs (row-known (length ks)) (take-out (checked-passed (length ks) u) h .1)
 
-    -- refused by RANGE and FRACTION alone
-    pub simplify-only-in : (S : Refusal → Type 0) → S RANGE → S FRACTION → Only S (simplify rules v fs)
+    -- refused by what leaves the range and by FRACTION alone
+    pub simplify-only-in : (S : Refusal → Type 0) → ((r : Refusal) → OutOfRange r → S r) → S FRACTION → Only S (simplify rules v fs)
     simplify-only-in S range fraction = simplify-only rules (orderIn-total ks) S range fraction v fs (form-keeps fs rows-known)
 
     -- THEOREM: full simplification of a nonzero value, if it answers, keeps base exponents

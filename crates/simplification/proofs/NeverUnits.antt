@@ -1,4 +1,4 @@
--- What simplification is refused by (01, "Simplification"): where each group's target has the group's base exponents, RANGE and FRACTION alone. The conversions of the second and of the third step can't answer UNITS; that to scalar hands it on.
+-- What simplification is refused by (01, "Simplification"): where each group's target has the group's base exponents, what leaves the range and FRACTION alone. The conversions of the second and of the third step can't answer UNITS; that to scalar hands it on.
 use mathlib.Core.Path.{_≡_, refl, sym, _∙_, ap}
 use mathlib.Core.Bool.{Bool, true, false, _||_, true≢false}
 use mathlib.Core.List.{List, [], _∷_}
@@ -6,11 +6,11 @@ use Prim.Native.Nat.{ℕ}
 use lib.Dec.{eqb, ltb}
 use lib.Ieee.{Float}
 use lib.ListN.{length, getD}
-use Rattle.exponents.specs.Outcome.{Refusal, RANGE, UNITS, FRACTION, number, Outcome, given, refused}
+use Rattle.exponents.specs.Outcome.{Refusal, UNITS, FRACTION, number, Outcome, given, refused}
 use Rattle.exponents.specs.Fractions.{nought, same}
 use Rattle.exponents.specs.declared.Exponent.{Exponent}
 use Rattle.exponents.proofs.Holds.{Holds, Only, fine, only, take-out, only-out, only-map, only-bind, holds-imp}
-use Rattle.exponents.proofs.InRange.{ranged-only}
+use Rattle.exponents.proofs.Halves.{OutOfRange, ranged-only}
 use Rattle.exponents.proofs.Rationals.{value}
 use Rattle.floats.specs.Power.{one}
 use Rattle.units.specs.declared.Factor.{Factor}
@@ -33,8 +33,8 @@ use Rattle.simplification.specs.Steps.{Amount, goOn, attempt, grown, con
 pub either-only : {A : Type 0} (S : Refusal → Type 0) {a b : Outcome A} (t : Bool) → Only S a → Only S b → Only S (pick t a b)
 either-only S t p q = pick-is (Only S) t p q
 
--- ---- what is made before a conversion refuses only by RANGE
-module _ (S : Refusal → Type 0) (range : S RANGE) where
+-- ---- what is made before a conversion refuses only what leaves the range
+module _ (S : Refusal → Type 0) (range : (r : Refusal) → OutOfRange r → S r) where
   module _ (bs : List (ℕ → Exponent)) where
     multiple-only : (fs gs : List Factor) → Only S (isMultiple bs fs gs)
     unfolding isMultiple multipleOf fits
@@ -99,15 +99,15 @@ module _ (R : Rules Float) (O : Total (R .order)) where
   abbrev pub GroupsKeep : List Factor → Type 0
   GroupsKeep l = (c : List Factor) → canon (R .order) l ≡ given c → All Keeps (groups (R .alike) c)
 
-  -- ---- refused by RANGE and FRACTION alone
-  module _ (S : Refusal → Type 0) (range : S RANGE) (fraction : S FRACTION) where
+  -- ---- refused by what leaves the range and by FRACTION alone
+  module _ (S : Refusal → Type 0) (range : (r : Refusal) → OutOfRange r → S r) (fraction : S FRACTION) where
     -- a conversion between lists that agree
     pub agreeing-only : (l m : List Factor) (v : Float) → Agree value (R .bases) l m → Only S (convert R l m v)
     agreeing-only l m v a = convert-only R value O S range fraction l m v (λ n. absurd (n a))
 
     -- any other, or by UNITS
     tried-only : (l m : List Factor) (v : Float) → Only (λ r. NotUnits r → S r) (convert R l m v)
-    tried-only l m v = convert-only R value O (λ r. NotUnits r → S r) (λ _. range) (λ _. fraction) l m v (λ _ n. absurd (n refl))
+    tried-only l m v = convert-only R value O (λ r. NotUnits r → S r) (λ r h _. range r h) (λ _. fraction) l m v (λ _ n. absurd (n refl))
 
     grown-only : (s : Float) (u g : List Factor) → Keeps g → Only S (grown R s u g)
     unfolding grown

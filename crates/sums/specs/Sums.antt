@@ -24,7 +24,7 @@ module _ (R : Rules Float) where
       bind (convert R fs u x) (λ a.
       apply (λ b. fresh (combined minus a b) u) (convert R gs u y))
 
-  -- RANGE of the equality test, RANGE and FRACTION of each list, then the conversions'
+  -- RANGE or DENOMINATOR of the equality test, these and FRACTION of each list, then the conversions'
   unfoldable pub nonzeroSum : Bool → Float → Float → List Factor → List Factor → Outcome Quantity
   nonzeroSum minus x y fs gs =
       bind (lists.equal (R .order) fs gs) (λ same.

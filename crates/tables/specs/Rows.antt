@@ -1,4 +1,4 @@
--- Admission of rows (01, "Records and sizes", "The refusals"): in row order, for each TABLE, SHAPE, RANGE, FRACTION; its base exponents, key and scale are worked out.
+-- Admission of rows (01, "Records and sizes", "The refusals"): in row order, for each TABLE, SHAPE, RANGE and DENOMINATOR in the order of the steps, FRACTION; its base exponents, key and scale are worked out.
 use mathlib.Core.Bool.{Bool, true, false, not, _||_}
 use mathlib.Core.List.{List, [], _∷_, _++_, map}
 use Prim.Native.Nat.{ℕ, zero, suc}
@@ -115,7 +115,7 @@ unfoldable pub rowScale : Kind → List Facts → Row → Outcome Float
 rowScale Base ks r = given one
 rowScale (Derived f) ks r = apply (mul binary64 f) (scale doubles (sizeBy (scaleAt ks)) (defOf r))
 
--- RANGE of the base exponents, then of the key, then FRACTION
+-- RANGE or DENOMINATOR of the base exponents, DENOMINATOR of the key, then FRACTION
 unfoldable pub workedOut : List Slot → List Facts → Row → Outcome Facts
 workedOut ss ks r =
     bind (rowExps (r .kind) ss ks r) (λ e.

@@ -210,7 +210,7 @@ fn own_exps(slots: Slots, i: usize) -> [Exponent; 16]
     out
 }
 
-// A derived row: RANGE of its base exponents, then of its key, then FRACTION.
+// A derived row: RANGE or DENOMINATOR of its base exponents, DENOMINATOR of its key, then FRACTION.
 fn derived_row(
     row: Row,
     nums: &[i32],

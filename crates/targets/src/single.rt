@@ -28,7 +28,7 @@ pub fn alone(it: Item) -> Items
 }
 
 // The first factor of the canonical list c that c is a whole power of, raised to it; the empty list where there is none. c has the
-// base exponents x at the first n base rows. RANGE beats none: every product of a factor is worked out.
+// base exponents x at the first n base rows. What leaves the range beats none: every product of a factor is worked out.
 pub fn first_multiple(c: Items, x: [Exponent; 16], n: usize, nums: &[i32], dens: &[u32]) -> Form
     ensures { λ r. ⌜ ((v : View) (cs : List Factorᵛ) (xs : List Exponentᵛ) → Lends v n (now (nums .entry)) (now (dens .entry)) → Resolved v c cs → x ≡ packExps xs → base (viewBases v n) cs ≡ given xs → r ≡ formOf v (search (viewBases v n) cs cs)) ⌝ }
 {

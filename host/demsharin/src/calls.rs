@@ -10,7 +10,10 @@ use crate::refusal::Refusal;
 ///
 /// Rows that break a rule are no fault yet: every call over them answers the refusal. That comes first, then the
 /// refusals of the arguments from left to right (SHAPE, UNKNOWN), then those named with the call. A row itself may give
-/// TABLE, SHAPE, RANGE and FRACTION.
+/// TABLE, SHAPE, RANGE, DENOMINATOR and FRACTION.
+///
+/// RANGE is said of an exponent's numerator, DENOMINATOR of its denominator: whichever leaves its range first, the
+/// numerator if both do in one step.
 #[derive(Debug, Clone, PartialEq, Eq)]
 pub struct Table {
     bytes: Vec<u8>,
@@ -21,7 +24,7 @@ pub(crate) fn answered<const N: usize>(call: impl FnOnce(&mut [u8]) -> u32) -> R
     let mut out = [0; N];
     match call(&mut out) {
         0 => Ok(out),
-        number => Err(Refusal::of(number).expect("the library has twelve refusals")),
+        number => Err(Refusal::of(number).expect("the library has thirteen refusals")),
     }
 }
 
@@ -77,33 +80,34 @@ impl Table {
         list(|out| exports::quotient(&self.bytes, &bytes::list(a), &bytes::list(b), out))
     }
 
-    /// Each exponent multiplied; zeros stay. SHAPE if the exponent breaks its rule, RANGE.
+    /// Each exponent multiplied; zeros stay. SHAPE if the exponent breaks its rule, RANGE or DENOMINATOR.
     pub fn list_power(&self, a: &List, exponent: Exponent) -> Result<List, Refusal> {
         list(|out| exports::list_power(&self.bytes, &bytes::list(a), &bytes::exponent(exponent), out))
     }
 
-    /// Factors in canonical order, those of one row and prefix merged, zeros gone. RANGE.
+    /// Factors in canonical order, those of one row and prefix merged, zeros gone. RANGE or DENOMINATOR.
     pub fn canonical(&self, a: &List) -> Result<List, Refusal> {
         list(|out| exports::canonical(&self.bytes, &bytes::list(a), out))
     }
 
-    /// Whether two lists have one canonical form. RANGE.
+    /// Whether two lists have one canonical form. RANGE or DENOMINATOR.
     pub fn same_list(&self, a: &List, b: &List) -> Result<bool, Refusal> {
         number(|out| exports::same_list(&self.bytes, &bytes::list(a), &bytes::list(b), out)).map(|n| n == 1)
     }
 
-    /// The list in base units with its scale. RANGE, FRACTION.
+    /// The list in base units with its scale. RANGE or DENOMINATOR, FRACTION.
     pub fn reduce_list(&self, a: &List) -> Result<Reduced, Refusal> {
         answered::<REDUCED_BYTES>(|out| exports::reduce_list(&self.bytes, &bytes::list(a), out))
             .map(|out| bytes::read_reduced(&out))
     }
 
-    /// The list of the smaller scale, the first if they are equal, the second if a scale is a NaN. RANGE, FRACTION.
+    /// The list of the smaller scale, the first if they are equal, the second if a scale is a NaN. RANGE or
+    /// DENOMINATOR, FRACTION.
     pub fn smaller_unit(&self, a: &List, b: &List) -> Result<List, Refusal> {
         list(|out| exports::smaller_unit(&self.bytes, &bytes::list(a), &bytes::list(b), out))
     }
 
-    /// The exponent to which the second list has the first's base exponents, if there is one. RANGE.
+    /// The exponent to which the second list has the first's base exponents, if there is one. RANGE or DENOMINATOR.
     pub fn is_multiple_of(&self, a: &List, b: &List) -> Result<Multiple, Refusal> {
         answered::<MULTIPLE_BYTES>(|out| exports::is_multiple_of(&self.bytes, &bytes::list(a), &bytes::list(b), out))
             .map(|out| bytes::read_multiple(&out))
@@ -112,12 +116,12 @@ impl Table {
 
 /// The calls on one quantity.
 impl Table {
-    /// The quantity in base units. RANGE, FRACTION.
+    /// The quantity in base units. RANGE or DENOMINATOR, FRACTION.
     pub fn reduce(&self, q: &Quantity) -> Result<Quantity, Refusal> {
         quantity(|out| exports::reduce(&self.bytes, &bytes::quantity(q), out))
     }
 
-    /// The quantity in another unit; zero converts to any. RANGE, UNITS, FRACTION.
+    /// The quantity in another unit; zero converts to any. RANGE or DENOMINATOR, UNITS, FRACTION.
     pub fn convert_to(&self, q: &Quantity, target: &List) -> Result<Quantity, Refusal> {
         quantity(|out| exports::convert_to(&self.bytes, &bytes::quantity(q), &bytes::list(target), out))
     }
@@ -137,7 +141,7 @@ impl Table {
         quantity(|out| exports::no_simplify(&self.bytes, &bytes::quantity(q), out))
     }
 
-    /// The quantity in a simpler unit, if it has the mark. RANGE, FRACTION.
+    /// The quantity in a simpler unit, if it has the mark. RANGE or DENOMINATOR, FRACTION.
     pub fn full_simplify(&self, q: &Quantity) -> Result<Quantity, Refusal> {
         quantity(|out| exports::full_simplify(&self.bytes, &bytes::quantity(q), out))
     }
@@ -151,12 +155,12 @@ impl Table {
 
 /// The calls on two quantities.
 impl Table {
-    /// The sum in the smaller of the two units; a zero gives the other as it is. RANGE, FRACTION, UNITS.
+    /// The sum in the smaller of the two units; a zero gives the other as it is. RANGE or DENOMINATOR, FRACTION, UNITS.
     pub fn add(&self, a: &Quantity, b: &Quantity) -> Result<Quantity, Refusal> {
         quantity(|out| exports::add(&self.bytes, &bytes::quantity(a), &bytes::quantity(b), out))
     }
 
-    /// The difference, by the same rules; zero minus a quantity is its negative. RANGE, FRACTION, UNITS.
+    /// The difference, by the same rules; zero minus a quantity is its negative. RANGE or DENOMINATOR, FRACTION, UNITS.
     pub fn subtract(&self, a: &Quantity, b: &Quantity) -> Result<Quantity, Refusal> {
         quantity(|out| exports::subtract(&self.bytes, &bytes::quantity(a), &bytes::quantity(b), out))
     }
@@ -176,12 +180,13 @@ impl Table {
         quantity(|out| exports::checked_power(&self.bytes, &bytes::quantity(a), &bytes::quantity(exponent), out))
     }
 
-    /// Whether the second, in the first's unit, has the first's value; no if the units don't agree. RANGE, FRACTION.
+    /// Whether the second, in the first's unit, has the first's value; no if the units don't agree. RANGE or
+    /// DENOMINATOR, FRACTION.
     pub fn equal(&self, a: &Quantity, b: &Quantity) -> Result<bool, Refusal> {
         number(|out| exports::equal(&self.bytes, &bytes::quantity(a), &bytes::quantity(b), out)).map(|n| n == 1)
     }
 
-    /// How the first compares with the second in the first's unit. NAN, RANGE, UNITS, FRACTION.
+    /// How the first compares with the second in the first's unit. NAN, RANGE or DENOMINATOR, UNITS, FRACTION.
     pub fn compare(&self, a: &Quantity, b: &Quantity) -> Result<Ordering, Refusal> {
         let order = number(|out| exports::compare(&self.bytes, &bytes::quantity(a), &bytes::quantity(b), out))?;
         Ok(order.cmp(&1))

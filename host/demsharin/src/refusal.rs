@@ -1,4 +1,4 @@
-// The twelve refusals, with the numbers that the library has for them.
+// The thirteen refusals, with the numbers that the library has for them.
 use std::fmt;
 
 /// Why a call has no answer.
@@ -13,7 +13,7 @@ pub enum Refusal {
     Unknown = 3,
     /// A product or a quotient has over 16 factors before merging; or a file has no room.
     Room = 4,
-    /// An exponent leaves its range.
+    /// An exponent's numerator leaves its range: a power too high.
     Range = 5,
     /// The units don't agree, and the value isn't zero.
     Units = 6,
@@ -29,11 +29,13 @@ pub enum Refusal {
     Nan = 11,
     /// A table file breaks the rules of its form, or has more rows than places are lent.
     Format = 12,
+    /// An exponent's denominator, or the common multiple of a row's denominators, leaves its range: a root too odd.
+    Denominator = 13,
 }
 
 impl Refusal {
     /// All of them, in the order of their numbers.
-    pub const ALL: [Refusal; 12] = [
+    pub const ALL: [Refusal; 13] = [
         Refusal::Table,
         Refusal::Shape,
         Refusal::Unknown,
@@ -46,14 +48,15 @@ impl Refusal {
         Refusal::NonWhole,
         Refusal::Nan,
         Refusal::Format,
+        Refusal::Denominator,
     ];
 
-    /// The refusal's number, 1 to 12.
+    /// The refusal's number, 1 to 13.
     pub const fn number(self) -> u32 {
         self as u32
     }
 
-    /// The refusal of a number; 0 and numbers above 12 are none.
+    /// The refusal of a number; 0 and numbers above 13 are none.
     pub fn of(number: u32) -> Option<Refusal> {
         Refusal::ALL.get((number as usize).wrapping_sub(1)).copied()
     }
@@ -73,6 +76,7 @@ impl Refusal {
             Refusal::NonWhole => "NONWHOLE",
             Refusal::Nan => "NAN",
             Refusal::Format => "FORMAT",
+            Refusal::Denominator => "DENOMINATOR",
         }
     }
 }

@@ -45,7 +45,7 @@ const WAYS: [(&str, usize, Way); 30] = [
     ("a fraction not lowest", 2, Way::Rows(|random, rows| exponents(random, rows, &[(2, 4), (0, 2), (-3, 3)]))),
     ("an exponent beyond", 2, Way::Rows(|random, rows| exponents(random, rows, &[(i32::MIN, 1), (1, 1 << 31)]))),
     ("RANGE", 2, Way::Rows(|random, rows| defined(random, rows, [(0, i32::MAX, 1), (0, 1, 1)]))),
-    ("RANGE of the key", 1, Way::Rows(|random, rows| keyed(random, rows))),
+    ("DENOMINATOR", 1, Way::Rows(|random, rows| keyed(random, rows))),
     ("FRACTION", 2, Way::Rows(|random, rows| defined(random, rows, [(3, 1, 2), (0, 1, 1)]))),
     ("over 128 rows", 1, Way::Rows(|random, rows| grow(random, rows, 129))),
 ];
@@ -283,7 +283,7 @@ fn defined(random: &mut Random, rows: &mut Vec<Row>, parts: [(i32, i32, u32); 2]
     replaced(random, rows, |first, _| parts.map(|part| factor(first, part)).to_vec());
 }
 
-/// Two base rows whose denominators have too large a common multiple; over one base row a sum beyond the range.
+/// Two base rows whose denominators have too large a common multiple; over one base row a sum whose denominator is.
 fn keyed(random: &mut Random, rows: &mut Vec<Row>) {
     let to = |row, den| Factor { exponent: Exponent { num: 1, den }, ..plain(row) };
     replaced(random, rows, |first, last| vec![to(first, 65_536), to(last, 65_537)]);

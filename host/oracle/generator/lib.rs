@@ -3,6 +3,7 @@
 // It asks the crate `scope` for base exponents and scales, so that most requests lie inside the equality domain.
 pub mod faults;
 pub mod files;
+pub mod halves;
 pub mod lists;
 pub mod noise;
 pub mod random;

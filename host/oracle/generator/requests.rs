@@ -96,7 +96,7 @@ fn any_exponent(random: &mut Random) -> Exponent {
     if random.percent(25) { fraction_exponent(random) } else { whole_exponent(random) }
 }
 
-fn quantity_of(random: &mut Random, unit: List) -> Quantity {
+pub fn quantity_of(random: &mut Random, unit: List) -> Quantity {
     let mark = if random.percent(15) { 0 } else { 1 + 6 * random.percent(3) as u32 };
     Quantity { bits: values::bits(random), mark, unit }
 }

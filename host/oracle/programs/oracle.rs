@@ -3,9 +3,9 @@
 //   oracle [--unaltered] [--reading | --beyond] [--any-cost] [--flags] [--standing CODES]
 //
 // --unaltered gives the Rust's own powi and powf back; --reading answers by 01's rules instead of the Rust, all refusals
-// included; --beyond lets the Rust answer too where 01 says RANGE or FRACTION; --any-cost where its trees are large;
-// --flags says on standard error which requests made the Rust raise a scale other than 1 to a fraction; --standing takes
-// codes with commas, and every other code is an unknown one.
+// included; --beyond lets the Rust answer too where 01 says RANGE or FRACTION, or 02 DENOMINATOR; --any-cost where its
+// trees are large; --flags says on standard error which requests made the Rust raise a scale other than 1 to a fraction;
+// --standing takes codes with commas, and every other code is an unknown one.
 use std::io::{self, BufReader, BufWriter, Read, Write};
 use std::panic::{self, AssertUnwindSafe};
 

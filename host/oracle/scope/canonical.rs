@@ -4,7 +4,8 @@ use crate::fractions::ZERO;
 use crate::lists::Part;
 use crate::tables::Table;
 
-/// Merging walks the given list from left to right (reading 11); then zeros go and the rest is ordered.
+/// Merging walks the given list from left to right, and the first sum that leaves the range decides (reading 11); then
+/// zeros go and the rest is ordered.
 pub fn canonical(table: &Table, parts: &[Part]) -> Checked<Vec<Part>> {
     let mut merged: Vec<Part> = Vec::new();
     for p in parts {

@@ -26,6 +26,8 @@ pub fn common(own: &[Part], target: &[Part]) -> Vec<Part> {
     own.iter().filter_map(beside).collect()
 }
 
+/// Both canonical forms, the own base exponents, the target over the common list, its base exponents: the first of these
+/// that leaves the range decides (reading 11; 02's reading 13).
 pub fn converted(table: &Table, value: f64, own: &[Part], target: &[Part]) -> Checked<f64> {
     let (own_form, target_form) = (canonical(table, own)?, canonical(table, target)?);
     if own_form == target_form || value == 0.0 {

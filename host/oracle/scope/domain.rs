@@ -25,7 +25,7 @@ pub fn outside(request: &Request) -> Option<u32> {
     }
     match given(request) {
         Err(TABLE | SHAPE | UNKNOWN | ROOM | NONWHOLE_FRACTION) => Some(OUTSIDE),
-        Err(RANGE) => Some(OUTSIDE_RANGE),
+        Err(RANGE | DENOMINATOR) => Some(OUTSIDE_RANGE),
         Err(FRACTION) => Some(OUTSIDE_FRACTION),
         _ => (trees(request) > TREE_LIMIT).then_some(OUTSIDE_COST),
     }

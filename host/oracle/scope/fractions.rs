@@ -1,8 +1,9 @@
-// Exponents: fractions in lowest terms, worked out exactly and then tested for their range ("Records and sizes").
+// Exponents: fractions in lowest terms, worked out exactly and then tested for their range ("Records and sizes"; 02,
+// "Order 2: which half of the fraction").
 use std::cmp::Ordering;
 
 use wire::records::Exponent;
-use wire::refusals::RANGE;
+use wire::refusals::{DENOMINATOR, RANGE};
 
 use crate::Checked;
 
@@ -21,11 +22,17 @@ pub fn gcd(a: i128, b: i128) -> i128 {
     if b == 0 { a.abs() } else { gcd(b, a % b) }
 }
 
-/// Lowest terms, then the range.
+/// Lowest terms, then the range: the numerator's, then the denominator's (02's reading 9).
 fn ranged(num: i128, den: i128) -> Checked<Fraction> {
     let divisor = gcd(num, den) * den.signum();
     let (num, den) = (num / divisor, den / divisor);
-    if num.abs() > LIMIT || den > LIMIT { Err(RANGE) } else { Ok(Fraction { num: num as i64, den: den as i64 }) }
+    if num.abs() > LIMIT {
+        return Err(RANGE);
+    }
+    if den > LIMIT {
+        return Err(DENOMINATOR);
+    }
+    Ok(Fraction { num: num as i64, den: den as i64 })
 }
 
 impl Fraction {

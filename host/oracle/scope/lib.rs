@@ -12,6 +12,7 @@ pub mod fractions;
 pub mod lists;
 pub mod multiples;
 pub mod paths;
+pub mod places;
 pub mod reduction;
 pub mod registry;
 pub mod simplification;

@@ -5,6 +5,7 @@ use crate::lists::Part;
 use crate::reduction::{Exponents, base_exponents};
 use crate::tables::Table;
 
+/// The first's base exponents, the second's, the quotient, the products: the first that leaves the range decides.
 pub fn is_multiple_of(table: &Table, a: &[Part], b: &[Part]) -> Checked<Option<Fraction>> {
     let a = base_exponents(&table.rows, a)?;
     let b = base_exponents(&table.rows, b)?;

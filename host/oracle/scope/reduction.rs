@@ -49,25 +49,31 @@ fn exponent_at(exponents: &Exponents, rank: u16) -> Fraction {
     exponents.iter().find(|(r, _)| *r == rank).map_or(ZERO, |(_, e)| *e)
 }
 
-fn sum_at(rows: &[Known], parts: &[Part], rank: u16) -> Checked<Fraction> {
+/// The ranks of the base rows that some factor reaches, rising; at any other only zeros are added.
+pub fn reached(rows: &[Known], parts: &[Part]) -> Vec<u16> {
+    let mut ranks: Vec<u16> = parts.iter().flat_map(|p| rows[p.row].exponents.iter().map(|(r, _)| *r)).collect();
+    ranks.sort();
+    ranks.dedup();
+    ranks
+}
+
+/// At one base row, factor by factor: the product, then the partial sum.
+pub fn exponent_of(rows: &[Known], parts: &[Part], rank: u16) -> Checked<Fraction> {
     let mut sum = ZERO;
     for p in parts {
-        sum = sum.plus(p.exponent.times(exponent_at(&rows[p.row].exponents, rank))?)?;
+        let product = p.exponent.times(exponent_at(&rows[p.row].exponents, rank))?;
+        sum = sum.plus(product)?;
     }
     Ok(sum)
 }
 
-/// Base row by base row in rank order, each from left to right over the factors (reading 4). A base row that no factor
-/// reaches only adds zeros, so it is passed over.
+/// Base row by base row in rank order, so that the lowest that fails decides (reading 4; 02's reading 11).
 pub fn base_exponents(rows: &[Known], parts: &[Part]) -> Checked<Exponents> {
-    let mut ranks: Vec<u16> = parts.iter().flat_map(|p| rows[p.row].exponents.iter().map(|(r, _)| *r)).collect();
-    ranks.sort();
-    ranks.dedup();
     let mut exponents = Vec::new();
-    for rank in ranks {
-        let sum = sum_at(rows, parts, rank)?;
-        if sum != ZERO {
-            exponents.push((rank, sum));
+    for rank in reached(rows, parts) {
+        let exponent = exponent_of(rows, parts, rank)?;
+        if exponent != ZERO {
+            exponents.push((rank, exponent));
         }
     }
     Ok(exponents)

@@ -11,7 +11,7 @@ use crate::reduction::base_exponents;
 use crate::sums::{Quantity, fresh};
 use crate::tables::Table;
 
-/// Only UNITS lets simplification go on: None then.
+/// Only UNITS lets simplification go on, neither RANGE nor DENOMINATOR (02's reading 15): None then.
 fn tried(table: &Table, q: &Quantity, target: Vec<Part>) -> Checked<Option<Quantity>> {
     match converted(table, q.value, &q.unit, &target) {
         Err(UNITS) => Ok(None),
@@ -61,7 +61,7 @@ fn by_groups(table: &Table, q: &Quantity) -> Checked<Quantity> {
     Ok(fresh(q.value * factor, canonical(table, &unit)?))
 }
 
-fn group_target(table: &Table, group: &[Part]) -> Checked<Vec<Part>> {
+pub fn group_target(table: &Table, group: &[Part]) -> Checked<Vec<Part>> {
     let place = |p: &Part| table.rows[p.row].is_base;
     let greater = |a: &&Part, b: &&Part| place(a).cmp(&place(b)).then(a.exponent.compared(b.exponent));
     let representative = group.iter().max_by(greater).expect("a group has a factor");

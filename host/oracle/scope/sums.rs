@@ -64,6 +64,7 @@ pub fn subtract(table: &Table, a: &Quantity, b: &Quantity) -> Checked<Quantity> 
     }
 }
 
+/// The second is the converted one, so its list is the own one (02's reading 14).
 pub fn equal(table: &Table, a: &Quantity, b: &Quantity) -> Checked<bool> {
     match converted(table, b.value, &b.unit, &a.unit) {
         Err(UNITS) => Ok(false),
@@ -71,6 +72,7 @@ pub fn equal(table: &Table, a: &Quantity, b: &Quantity) -> Checked<bool> {
     }
 }
 
+/// As in `equal`, the second's list is the own one.
 pub fn compare(table: &Table, a: &Quantity, b: &Quantity) -> Checked<Ordering> {
     if a.value.is_nan() || b.value.is_nan() {
         return Err(NAN);

@@ -1,6 +1,6 @@
 // Admission of a table's rows: base exponents, key and scale of each ("Records and sizes", "The refusals").
 use wire::records::{DEF_PLACES, Row};
-use wire::refusals::{RANGE, TABLE};
+use wire::refusals::{DENOMINATOR, TABLE};
 
 use crate::Checked;
 use crate::fractions::{LIMIT, ONE, gcd};
@@ -47,6 +47,7 @@ pub fn admitted_row(known: &[Known], row: &Row) -> Checked<Known> {
     }
     let parts: Vec<Part> = row.def.iter().map(shaped).collect::<Checked<_>>()?;
     let is_base = row.kind == 0;
+    // All base exponents, then the key (02's reading 12).
     let exponents = if is_base { vec![(row.rank, ONE)] } else { base_exponents(known, &parts)? };
     let key = key(&exponents)?;
     let scale = if is_base { 1.0 } else { f64::from_bits(row.bits) * scale(known, &parts)? };
@@ -70,12 +71,13 @@ fn faulty(known: &[Known], row: &Row) -> bool {
 }
 
 /// "A row's key": made whole by the least common multiple, divided by the greatest common divisor, the first positive.
+/// The multiple is a denominator (02, order 2).
 fn key(exponents: &Exponents) -> Checked<Key> {
     let mut multiple: i128 = 1;
     for (_, e) in exponents {
         multiple = multiple / gcd(multiple, e.den as i128) * e.den as i128;
         if multiple > LIMIT {
-            return Err(RANGE);
+            return Err(DENOMINATOR);
         }
     }
     let whole: Key = exponents.iter().map(|(r, e)| (*r, e.num as i128 * (multiple / e.den as i128))).collect();

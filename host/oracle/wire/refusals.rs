@@ -11,6 +11,7 @@ pub const ZERONEG: u32 = 9;
 pub const NONWHOLE: u32 = 10;
 pub const NAN: u32 = 11;
 pub const FORMAT: u32 = 12;
+pub const DENOMINATOR: u32 = 13;
 
 /// Ends a stream that cannot be read on.
 pub const END: u32 = 0xffff_ffff;
@@ -18,7 +19,7 @@ pub const END: u32 = 0xffff_ffff;
 pub const OUTSIDE: u32 = 0xffff_fffe;
 /// 01 answers FRACTION: a scale other than 1 met an exponent that isn't whole.
 pub const OUTSIDE_FRACTION: u32 = 0xffff_fffd;
-/// 01 answers RANGE, or an exponent of the Rust's answer does not fit the byte form.
+/// 01 answers RANGE or 02 DENOMINATOR, or an exponent of the Rust's answer does not fit the byte form.
 pub const OUTSIDE_RANGE: u32 = 0xffff_fffc;
 /// The Rust panicked where 01 answers or refuses otherwise.
 pub const OUTSIDE_PANIC: u32 = 0xffff_fffb;
@@ -30,12 +31,24 @@ pub fn is_outside(number: u32) -> bool {
 }
 
 pub fn name(number: u32) -> String {
-    const NAMES: [&str; 13] = [
-        "answered", "TABLE", "SHAPE", "UNKNOWN", "ROOM", "RANGE", "UNITS", "FRACTION", "DIVZERO", "ZERONEG",
-        "NONWHOLE", "NAN", "FORMAT",
+    const NAMES: [&str; 14] = [
+        "answered",
+        "TABLE",
+        "SHAPE",
+        "UNKNOWN",
+        "ROOM",
+        "RANGE",
+        "UNITS",
+        "FRACTION",
+        "DIVZERO",
+        "ZERONEG",
+        "NONWHOLE",
+        "NAN",
+        "FORMAT",
+        "DENOMINATOR",
     ];
     match number {
-        0..=FORMAT => NAMES[number as usize].to_string(),
+        0..=DENOMINATOR => NAMES[number as usize].to_string(),
         OUTSIDE => "outside".to_string(),
         OUTSIDE_FRACTION => "outside: FRACTION".to_string(),
         OUTSIDE_RANGE => "outside: RANGE".to_string(),

@@ -1,6 +1,8 @@
-// The wrapper's tests, each over the archive: the bench list, table files, the limits, the refusals, the bytes.
+// The wrapper's tests, each over the archive: the bench list, table files, the halves of fractions, the limits, the
+// refusals, the bytes.
 mod bench;
 mod files;
+mod halves;
 mod layout;
 mod limits;
 mod refusals;

@@ -1,4 +1,4 @@
-// Each of the twelve refusals, and their numbers.
+// Each of the thirteen refusals, and their numbers.
 use super::*;
 use crate::{Refusal, prefix_factor};
 
@@ -12,6 +12,8 @@ fn of_tables_and_lists() {
     let eight = List { factors: vec![Factor::of(METRE); 8] };
     assert_eq!(table().product(&nine, &eight), Err(Refusal::Room));
     assert_eq!(table().list_power(&power(METRE, i32::MAX).into(), Exponent::whole(2)), Err(Refusal::Range));
+    let root = List::from(Factor::of(METRE).to(Exponent::new(1, 65536)));
+    assert_eq!(table().list_power(&root, Exponent::new(1, 65536)), Err(Refusal::Denominator));
 }
 
 #[test]
@@ -48,5 +50,5 @@ fn numbers_and_names() {
         assert_eq!(Refusal::of(refusal.number()), Some(refusal));
         assert_eq!(format!("{refusal:?}").to_uppercase(), refusal.name());
     }
-    assert_eq!((Refusal::of(0), Refusal::of(13), Refusal::of(u32::MAX)), (None, None, None));
+    assert_eq!((Refusal::of(0), Refusal::of(14), Refusal::of(u32::MAX)), (None, None, None));
 }

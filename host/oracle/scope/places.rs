@@ -1,0 +1,124 @@
+// At which step a row, a conversion, a multiple or a simplification is refused as RANGE or DENOMINATOR, so that a
+// comparison can say how often each was met. The reading's steps are walked again; of the other calls nothing is said.
+use wire::bytes;
+use wire::calls::FILES;
+use wire::refusals::{DENOMINATOR, RANGE};
+use wire::stream::Request;
+
+use crate::Checked;
+use crate::arguments::{self, Arguments};
+use crate::calls::given;
+use crate::canonical::canonical;
+use crate::conversion::{common, converted};
+use crate::fractions::ONE;
+use crate::lists::{Part, joined, negated, shaped};
+use crate::multiples::is_multiple_of;
+use crate::reduction::base_exponents;
+use crate::simplification::group_target;
+use crate::sums::Quantity;
+use crate::tables::{Known, Table, admitted_row};
+
+/// The step that was not passed.
+type Walked = Result<(), &'static str>;
+
+/// The step and the number of the refusal.
+pub fn of(request: &Request) -> Option<(&'static str, u32)> {
+    let refusal = given(request).err().filter(|refusal| is_a_half(*refusal))?;
+    let step = match arguments::of(request) {
+        _ if FILES.contains(&request.code) => return None,
+        Ok(arguments) => call(request.code, arguments).ok()?.err()?,
+        Err(_) => row(&request.arguments[0])?,
+    };
+    Some((step, refusal))
+}
+
+fn row(table: &[u8]) -> Option<&'static str> {
+    let mut known: Vec<Known> = Vec::new();
+    for row in bytes::table(table)? {
+        let Ok(next) = admitted_row(&known, &row) else {
+            let parts: Vec<Part> = row.def.iter().map(shaped).collect::<Checked<_>>().ok()?;
+            return Some(if base_exponents(&known, &parts).is_err() { "row: base exponents" } else { "row: key" });
+        };
+        known.push(next);
+    }
+    None
+}
+
+fn call(code: u32, mut a: Arguments) -> Checked<Walked> {
+    Ok(match code {
+        9 => {
+            let (own, target) = (a.quantity()?, a.list()?);
+            conversion(&a.table, &own.unit, &target)
+        }
+        14 => {
+            let (_, exponent) = (a.quantity()?, a.quantity()?);
+            conversion(&a.table, &exponent.unit, &[])
+        }
+        17 | 18 => {
+            let (first, second) = (a.quantity()?, a.quantity()?);
+            conversion(&a.table, &second.unit, &first.unit)
+        }
+        20 => {
+            let (first, second) = (a.list()?, a.list()?);
+            multiple(&a.table, &first, &second)
+        }
+        21 | 22 => {
+            let q = a.quantity()?;
+            simplification(&a.table, &q).and(Err("simplification: candidates"))
+        }
+        _ => Ok(()),
+    })
+}
+
+/// Of a value that isn't zero; a zero is refused in the first two steps alone.
+fn conversion(table: &Table, own: &[Part], target: &[Part]) -> Walked {
+    let own_form = canonical(table, own).or(Err("conversion: own canonical form"))?;
+    let target_form = canonical(table, target).or(Err("conversion: target's canonical form"))?;
+    let common = negated(&common(&own_form, &target_form));
+    base_exponents(&table.rows, &joined(own, &common)).or(Err("conversion: own base exponents"))?;
+    let left = canonical(table, &joined(target, &common)).or(Err("conversion: target over the common list"))?;
+    base_exponents(&table.rows, &left).or(Err("conversion: the target's base exponents"))?;
+    Ok(())
+}
+
+fn multiple(table: &Table, a: &[Part], b: &[Part]) -> Walked {
+    let a = base_exponents(&table.rows, a).or(Err("multiple: the first's base exponents"))?;
+    let b = base_exponents(&table.rows, b).or(Err("multiple: the second's base exponents"))?;
+    let Some((first, own)) = a.first() else { return Ok(()) };
+    let Some((_, other)) = b.iter().find(|(rank, _)| rank == first) else { return Ok(()) };
+    if a != b {
+        own.over(*other).or(Err("multiple: the quotient"))?;
+        return Err("multiple: the products");
+    }
+    Ok(())
+}
+
+fn simplification(table: &Table, q: &Quantity) -> Walked {
+    if converted(table, q.value, &q.unit, &[]).is_err_and(is_a_half) {
+        return Err("simplification: to scalar");
+    }
+    let form = canonical(table, &q.unit).or(Err("simplification: to scalar"))?;
+    for factor in form.iter().filter(|_| form.len() > 1) {
+        let single = Part { exponent: ONE, ..*factor };
+        let multiple = is_multiple_of(table, &form, &[single]).or(Err("simplification: a multiple"))?;
+        let Some(exponent) = multiple.filter(|m| m.is_whole()) else { continue };
+        let target = [Part { exponent, ..single }];
+        if converted(table, q.value, &q.unit, &target).is_err_and(is_a_half) {
+            return Err("simplification: to one factor");
+        }
+    }
+    let mut unit = Vec::new();
+    for group in form.chunk_by(|a, b| table.rows[a.row].key == table.rows[b.row].key) {
+        let target = group_target(table, group).or(Err("simplification: a group's target"))?;
+        if converted(table, 1.0, group, &target).is_err_and(is_a_half) {
+            return Err("simplification: a group's conversion");
+        }
+        unit.extend(target);
+    }
+    canonical(table, &unit).or(Err("simplification: the targets merged"))?;
+    Ok(())
+}
+
+fn is_a_half(refusal: u32) -> bool {
+    [RANGE, DENOMINATOR].contains(&refusal)
+}
