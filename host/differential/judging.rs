@@ -84,8 +84,8 @@ impl Judge {
         if !judged {
             self.counts.add(request.code, UNJUDGED, 1);
         }
-        if let Some((step, refusal)) = scope::places::of(request) {
-            self.steps.add(step, refusal);
+        if let Some(place) = scope::places::of(request) {
+            self.steps.add(&place);
         }
         if !(alike && fits) {
             self.show(request, [&reading, &rust, &Answer { number, bytes: out }], fits);

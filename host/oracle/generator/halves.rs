@@ -44,7 +44,7 @@ pub fn draft(random: &mut Random, code: u32) -> Draft {
 
 fn refused(request: &Request, late: bool) -> bool {
     match late {
-        true => places::of(request).is_some_and(|(step, _)| !EARLY.contains(&step)),
+        true => places::of(request).and_then(|place| place.step).is_some_and(|step| !EARLY.contains(&step)),
         false => matches!(calls::given(request), Err(RANGE | DENOMINATOR)),
     }
 }

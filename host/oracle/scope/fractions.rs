@@ -6,6 +6,7 @@ use wire::records::Exponent;
 use wire::refusals::{DENOMINATOR, RANGE};
 
 use crate::Checked;
+use crate::places::{Operation, refused};
 
 pub const LIMIT: i128 = 2_147_483_647;
 
@@ -35,6 +36,14 @@ fn ranged(num: i128, den: i128) -> Checked<Fraction> {
     Ok(Fraction { num: num as i64, den: den as i64 })
 }
 
+/// The same, and which operation was refused.
+fn noted(operation: Operation, num: i128, den: i128) -> Checked<Fraction> {
+    ranged(num, den).inspect_err(|_| {
+        let divisor = gcd(num, den);
+        refused(operation, (num / divisor).abs() > LIMIT, (den / divisor).abs() > LIMIT);
+    })
+}
+
 impl Fraction {
     pub fn whole(n: i64) -> Fraction {
         Fraction { num: n, den: 1 }
@@ -53,16 +62,16 @@ impl Fraction {
 
     pub fn plus(self, other: Fraction) -> Checked<Fraction> {
         let (a, b) = (self.num as i128 * other.den as i128, other.num as i128 * self.den as i128);
-        ranged(a + b, self.den as i128 * other.den as i128)
+        noted(Operation::Sum, a + b, self.den as i128 * other.den as i128)
     }
 
     pub fn times(self, other: Fraction) -> Checked<Fraction> {
-        ranged(self.num as i128 * other.num as i128, self.den as i128 * other.den as i128)
+        noted(Operation::Product, self.num as i128 * other.num as i128, self.den as i128 * other.den as i128)
     }
 
     /// `other` is not zero.
     pub fn over(self, other: Fraction) -> Checked<Fraction> {
-        ranged(self.num as i128 * other.den as i128, self.den as i128 * other.num as i128)
+        noted(Operation::Quotient, self.num as i128 * other.den as i128, self.den as i128 * other.num as i128)
     }
 
     pub fn negated(self) -> Fraction {

@@ -1,5 +1,9 @@
-// At which step a row, a conversion, a multiple or a simplification is refused as RANGE or DENOMINATOR, so that a
-// comparison can say how often each was met. The reading's steps are walked again; of the other calls nothing is said.
+// In which operation and at which step a request is refused as RANGE or DENOMINATOR, and by which halves, so that a
+// comparison can say how often each was met; no answer hangs on it. The operation is noted where it is refused. For the
+// step those of a row, a power, a canonical form, a reduction, a conversion, a multiple and a simplification are walked
+// again; of the other calls no step is said.
+use std::cell::Cell;
+
 use wire::bytes;
 use wire::calls::FILES;
 use wire::refusals::{DENOMINATOR, RANGE};
@@ -18,18 +22,66 @@ use crate::simplification::group_target;
 use crate::sums::Quantity;
 use crate::tables::{Known, Table, admitted_row};
 
+#[derive(Debug, Clone, Copy, PartialEq, Eq)]
+pub enum Operation {
+    Sum,
+    Product,
+    Quotient,
+    Multiple,
+}
+
+/// Which halves left their range.
+#[derive(Debug, Clone, Copy, PartialEq, Eq)]
+pub enum Halves {
+    Numerator,
+    Denominator,
+    Both,
+}
+
+thread_local! {
+    static LAST: Cell<Option<(Operation, Halves)>> = const { Cell::new(None) };
+}
+
+/// An operation is refused; one half at least has left its range.
+pub fn refused(operation: Operation, numerator: bool, denominator: bool) {
+    let halves = match (numerator, denominator) {
+        (true, true) => Halves::Both,
+        (true, false) => Halves::Numerator,
+        _ => Halves::Denominator,
+    };
+    LAST.set(Some((operation, halves)));
+}
+
 /// The step that was not passed.
 type Walked = Result<(), &'static str>;
 
-/// The step and the number of the refusal.
-pub fn of(request: &Request) -> Option<(&'static str, u32)> {
-    let refusal = given(request).err().filter(|refusal| is_a_half(*refusal))?;
-    let step = match arguments::of(request) {
-        _ if FILES.contains(&request.code) => return None,
-        Ok(arguments) => call(request.code, arguments).ok()?.err()?,
-        Err(_) => row(&request.arguments[0])?,
+/// Where a request was refused as RANGE or DENOMINATOR.
+pub struct Place {
+    pub operation: &'static str,
+    pub step: Option<&'static str>,
+    pub halves: Halves,
+}
+
+pub fn of(request: &Request) -> Option<Place> {
+    LAST.set(None);
+    given(request).err().filter(|refusal| is_a_half(*refusal))?;
+    // A power's exponent that is too large is no operation.
+    let (operation, halves) = match LAST.get() {
+        Some((Operation::Sum, halves)) => ("sum", halves),
+        Some((Operation::Product, halves)) => ("product", halves),
+        Some((Operation::Quotient, halves)) => ("quotient", halves),
+        Some((Operation::Multiple, halves)) => ("common multiple", halves),
+        None => ("whole exponent", Halves::Numerator),
     };
-    Some((step, refusal))
+    Some(Place { operation, step: step(request), halves })
+}
+
+fn step(request: &Request) -> Option<&'static str> {
+    match arguments::of(request) {
+        _ if FILES.contains(&request.code) => None,
+        Ok(arguments) => call(request.code, arguments).ok()?.err(),
+        Err(_) => row(&request.arguments[0]),
+    }
 }
 
 fn row(table: &[u8]) -> Option<&'static str> {
@@ -46,6 +98,9 @@ fn row(table: &[u8]) -> Option<&'static str> {
 
 fn call(code: u32, mut a: Arguments) -> Checked<Walked> {
     Ok(match code {
+        4 => Err("power: a product"),
+        5 => Err("canonical form: merging"),
+        7 | 8 => Err("reduction: base exponents"),
         9 => {
             let (own, target) = (a.quantity()?, a.list()?);
             conversion(&a.table, &own.unit, &target)

@@ -5,6 +5,7 @@ use wire::refusals::{DENOMINATOR, TABLE};
 use crate::Checked;
 use crate::fractions::{LIMIT, ONE, gcd};
 use crate::lists::{Part, shaped};
+use crate::places::{Operation, refused};
 use crate::reduction::{Exponents, base_exponents, scale};
 
 pub const ROWS: usize = 128;
@@ -77,6 +78,7 @@ fn key(exponents: &Exponents) -> Checked<Key> {
     for (_, e) in exponents {
         multiple = multiple / gcd(multiple, e.den as i128) * e.den as i128;
         if multiple > LIMIT {
+            refused(Operation::Multiple, false, true);
             return Err(DENOMINATOR);
         }
     }
