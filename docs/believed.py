@@ -16,7 +16,7 @@ from pathlib import Path
 HOME = Path(__file__).resolve().parent.parent
 CALLS = ['lentcalls', 'lentfiles', 'demsharin']
 BYTES = ['wire', 'replies', 'stream', 'inflow']
-THEOREMS = ['promises', 'filepromises', 'halves']
+THEOREMS = ['promises', 'filepromises', 'halves', 'cancels']
 
 USE = re.compile(r'^\s*(?:ghost )?use\s+Rattle·(\w+)(?:·specs)?\.specs\.([A-Z]\w*)(?:\.\{(.*)\})?(?:\s+as\s+([^\s;]+))?;?\s*$')
 

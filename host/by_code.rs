@@ -38,6 +38,7 @@ pub fn call(request: &Request, out: &mut [u8]) -> u32 {
         (24, [table, _]) => exports::write_table(table, out),
         (25, [file, _]) => exports::read_table(file, out),
         (26, [file, _]) => exports::salvage_table(file, out),
+        (27, [table, a, b]) => exports::convert_merged(table, a, b, out),
         (code, arguments) => panic!("no call {code} with {} arguments", arguments.len()),
     }
 }

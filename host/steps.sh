@@ -127,7 +127,13 @@ files() {
     seeds files "$size" "$@"
 }
 
-# speed [compare] [files] [growth] [stack] [--round MILLISECONDS]: the Rust as a release build has it, without checks for overflow
+# Conversions between units in use by both rules, held against exact fractions.
+families() {
+    rustc_x86 --crate-name families --edition 2024 -O -D warnings "${wrapper[@]}" -o "$build/families" "$here/families/main.rs"
+    run_x86 "$build/families" | python3 "$here/families/judge.py"
+}
+
+# speed [compare] [files] [merged] [growth] [stack] [--round MILLISECONDS]: the Rust as a release build has it, without checks for overflow
 speed() {
     oracle_crates off
     program speed wire scope published

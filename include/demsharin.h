@@ -222,6 +222,13 @@ uint32_t demsharin_read_table(const uint8_t *file, size_t file_len, uint8_t *out
  * rows kept are written. Nothing is refused but ROOM below 8 bytes. */
 uint32_t demsharin_salvage_table(const uint8_t *file, size_t file_len, uint8_t *out, size_t out_len);
 
+/* Quantity, List -> Quantity: as demsharin_convert_to, with factors common to both units cancelled on both
+ * sides. A unit that cancels is not read: it neither refuses by FRACTION nor rounds. The value may differ in its
+ * last places from demsharin_convert_to's. RANGE or DENOMINATOR, UNITS, FRACTION. */
+uint32_t demsharin_convert_merged(const uint8_t *table, size_t table_len, const uint8_t *quantity,
+                                  size_t quantity_len, const uint8_t *target, size_t target_len, uint8_t *out,
+                                  size_t out_len);
+
 #ifdef __cplusplus
 }
 #endif

@@ -3,13 +3,14 @@ use std::panic::{self, AssertUnwindSafe};
 
 use demsharin::bytes::HEAD_BYTES;
 use generator::random::Random;
-use wire::calls::FILES;
+use wire::calls::{CONVERT_MERGED, CONVERT_TO, FILES};
 use wire::refusals::{self, OUTSIDE_PANIC, ROOM, is_outside};
 use wire::stream::{Answer, Request};
 use wire::text;
 
 use crate::by_code::{answer_bytes, call};
 use crate::counts::{Counts, DIFFERENT, UNJUDGED};
+use crate::pairs::{Pairs, is_a_half};
 use crate::steps::Steps;
 
 /// What stands in lent room before a call.
@@ -21,6 +22,7 @@ pub struct Judge {
     random: Random,
     pub counts: Counts,
     pub steps: Steps,
+    pub pairs: Pairs,
     held: u64,
     by_the_rust: u64,
     untouched: u64,
@@ -60,11 +62,28 @@ fn expected(reading: &Answer, room: usize) -> Vec<u8> {
 impl Judge {
     pub fn new(seed: u64) -> Judge {
         let random = Random::new(!seed);
-        let (counts, steps) = (Counts::default(), Steps::default());
-        Judge { random, counts, steps, held: 0, by_the_rust: 0, untouched: 0, longer: 0, short: 0, different: 0 }
+        let (counts, steps, pairs) = (Counts::default(), Steps::default(), Pairs::default());
+        Judge { random, counts, steps, pairs, held: 0, by_the_rust: 0, untouched: 0, longer: 0, short: 0, different: 0 }
     }
 
+    /// A conversion is held by both rules, and the two answers against each other.
     pub fn hold(&mut self, request: &Request) {
+        let rules = [CONVERT_TO, CONVERT_MERGED];
+        if !rules.contains(&request.code) {
+            self.held_alone(request);
+            return;
+        }
+        let asked = rules.map(|code| Request { code, arguments: request.arguments.clone() });
+        let [old, new] = [self.held_alone(&asked[0]), self.held_alone(&asked[1])];
+        if !self.pairs.add(&old, &new) && self.pairs.broken <= SHOWN {
+            println!("a pair not as 02 says: {}", text::request(&asked[0]));
+            println!("  by 01's rule: {}", text::answer(CONVERT_TO, &old));
+            println!("  by order 3's: {}", text::answer(CONVERT_MERGED, &new));
+        }
+    }
+
+    /// The archive's answer, after it was compared.
+    fn held_alone(&mut self, request: &Request) -> Answer {
         let reading = scope::calls::answer(request);
         let rust = by_the_rust(request);
         let spare = self.random.pick(&[0, 0, 1, 7, 40]);
@@ -84,12 +103,17 @@ impl Judge {
         if !judged {
             self.counts.add(request.code, UNJUDGED, 1);
         }
-        if let Some(place) = scope::places::of(request) {
+        if is_a_half(reading.number)
+            && let Some(place) = scope::places::of(request)
+        {
             self.steps.add(&place);
         }
+        let ours = Answer { number, bytes: out };
         if !(alike && fits) {
-            self.show(request, [&reading, &rust, &Answer { number, bytes: out }], fits);
+            self.show(request, [&reading, &rust, &ours], fits);
         }
+        let answer = if number == 0 { answer_bytes(request) } else { 0 };
+        Answer { bytes: ours.bytes[..answer].to_vec(), ..ours }
     }
 
     /// For one request in eight: too short a room gets ROOM, or the refusal that comes before, and keeps its bytes.

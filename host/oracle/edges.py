@@ -83,9 +83,14 @@ def power(base, n):
         m >>= 1
         if m:
             a *= a
-    if n >= 0:
-        return r
-    return 1.0 / r if r else math.copysign(math.inf, r)
+    return divided(1.0, r) if n < 0 else r
+
+
+def divided(x, y):
+    """As binary64 has it: by a zero too."""
+    if y:
+        return x / y
+    return math.copysign(math.inf, x) * math.copysign(1.0, y) if x and not math.isnan(x) else math.nan
 
 
 def ranged(x):

@@ -26,7 +26,9 @@ END = b"\xff\xff\xff\xff"
 TWO = {5, 7, 8, 15, 16, 21, 23, 24, 25, 26}
 ANSWERS = {1: 8, 6: 4, 7: 332, 17: 4, 18: 4, 20: 12} | dict.fromkeys([2, 3, 4, 5, 19], 324)
 QUANTITY, ROW = 336, 176
-REFUSALS = range(1, 13)
+FILES = range(24, 27)
+LAST = 27
+REFUSALS = range(1, 14)
 
 
 def arguments(code):
@@ -109,9 +111,9 @@ def longest(rng, good, codes):
 
 def unknown(rng, good, codes):
     """A code that is not known, also one that its low bits would make a known one, over arguments that would fit."""
-    absent = [code for code in range(1, 27) if code not in codes]
-    high = [255, 256, 256 + 5, 65536 + 2, 2**31, 2**31 + 9, 2**32 - 1, rng.randrange(27, 2**32)]
-    code = rng.choice([0, 27, 28] + high + 3 * absent)
+    absent = [code for code in range(1, LAST + 1) if code not in codes]
+    high = [255, 256, 256 + 5, 65536 + 2, 2**31, 2**31 + 9, 2**32 - 1, rng.randrange(LAST + 1, 2**32)]
+    code = rng.choice([0, LAST + 1, LAST + 2] + high + 3 * absent)
     fits = [request for request in good if arguments(word(request, 0)) == arguments(code)]
     return words(code) + rng.choice([rng.choice(fits)[4:], b"", b"\x00"]) + after(rng, good)
 
@@ -122,7 +124,8 @@ def noise(rng, good, codes):
 
 def small_words(rng, good, codes):
     """Small words, most of them whole multiples of four: codes and short lengths, so that requests come about."""
-    small = [rng.randrange(28) if rng.random() < 0.1 else 4 * rng.randrange(6) for _ in range(rng.randrange(1, 300))]
+    many = rng.randrange(1, 300)
+    small = [rng.randrange(LAST + 2) if rng.random() < 0.1 else 4 * rng.randrange(6) for _ in range(many)]
     return words(rng.choice([2, 4, 8, 20]), *small)
 
 
@@ -179,7 +182,7 @@ def feed(file):
 
 def right_length(code, stream, at):
     """Of the answer that begins at a place; that of a file's call says by its first number how much is behind its head."""
-    if code < 24:
+    if code not in FILES:
         return ANSWERS.get(code, QUANTITY)
     return 8 + (word(stream, at) or 0) * (1 if code == 24 else ROW)
 

@@ -13,8 +13,8 @@ import struct
 import sys
 from fractions import Fraction
 
-from edges import DENOMINATOR, MOST, RANGE, Refused, admitted_row, base_exponents, bits, exponent, f, fields, given
-from edges import power, ranged, refused, request, scale, table_bytes, told, unit_of, value, words
+from edges import DENOMINATOR, MOST, RANGE, Refused, admitted_row, base_exponents, bits, divided, exponent, f, fields
+from edges import given, power, ranged, refused, request, scale, table_bytes, told, unit_of, value, words
 
 UNITS = 6
 LIST_POWER, CANONICAL, SAME, REDUCE_LIST, REDUCE, CONVERT, ADD, POWER = 4, 5, 6, 7, 8, 9, 10, 14
@@ -66,17 +66,19 @@ class Table:
     def scale(self, unit):
         return scale(unit, self.rows)
 
-    def converted(self, x, own, target):
+    def converted(self, x, own, target, merged=False):
+        """By 01; merged is 02's order 3: the own list over the common one is made canonical too."""
         mine, wanted = self.canonical(own), self.canonical(target)
         if mine == wanted or x == 0.0:
             return x
         common = [(*place, *fields(-e)) for place, e in shared(mine, wanted)]
-        own_base = self.base(own + common)
+        own_left = self.canonical(own + common) if merged else own + common
+        own_base = self.base(own_left)
         left = self.canonical(target + common)
         if own_base != self.base(left):
             raise Refused(UNITS)
-        own_scale = self.scale(own + common)
-        return x * own_scale / self.scale(left)
+        own_scale = self.scale(own_left)
+        return divided(x * own_scale, self.scale(left))
 
     def multiple(self, a, b):
         mine, others = self.base(a), self.base(b)

@@ -76,12 +76,16 @@ def list_of(unit, names):
     return words(len(given)) + places(16, given, PAST)
 
 
-def rows_of(units, order=None):
+def ranked(units, order=None):
     """The order of ranks is that of the names' bytes unless said."""
     names = list(units)
     ranks = [(order or sorted(names)).index(name) for name in names]
     kinds = [(d[0], factors(d[1], names)) if d else (None, []) for d in units.values()]
-    return table_bytes([(rank, *kind) for rank, kind in zip(ranks, kinds)])
+    return [(rank, *kind) for rank, kind in zip(ranks, kinds)]
+
+
+def rows_of(units, order=None):
+    return table_bytes(ranked(units, order))
 
 
 # ---- cases: a label, the names of its rows, a request

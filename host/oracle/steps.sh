@@ -1,7 +1,7 @@
 # The steps of `run`, sourced with $here, $root, $build, $published and $streams set.
 
 # The codes that `calls` answers, every other being an unknown one to it; and those that are asked.
-standing=$(seq -s, 1 26)
+standing=$(seq -s, 1 27)
 asked=${ORACLE_CODES:-$standing}
 
 # The stored records stand beside the program that answers them again.
@@ -82,11 +82,11 @@ depths() {
     done
 }
 
-# wrong [list] [files] [halves]: how many answers each wrong reading changes, in 60,000 generated requests and in stored
-# records; of 01, which the Rust judges, of 02's order 1 and of its order 2, which the right reading judges
+# wrong [list] [files] [halves] [merged]: how many answers each wrong reading changes, in 60,000 generated requests and
+# in stored records; of 01, which the Rust judges, and of 02's orders 1, 2 and 3, which the right reading judges
 wrong() {
     local word
-    [ $# -gt 0 ] || set -- list files halves
+    [ $# -gt 0 ] || set -- list files halves merged
     for word in "$@"; do "wrong_$word"; done
 }
 
@@ -107,6 +107,14 @@ wrong_halves() {
     program oracle --reading <"$streams/requests" >"$streams/right"
     wrong_table halves "wrong reading of the halves" "the stored records" "$records"/edges-{limits,admissions,halves}.bin \
         "$records/named-simplifications.bin"
+}
+
+# Half of them are made to leave the range. Sums, comparison and simplification, which keep 01's rule, are asked too.
+wrong_merged() {
+    program generate 1 30000 --calls 27:4,10,14,17,18,21,22 >"$streams/requests"
+    program generate 2 30000 --calls 27 --halves >>"$streams/requests"
+    program oracle --reading <"$streams/requests" >"$streams/right"
+    wrong_table merged "wrong reading of order 3" "the stored records" "$records/edges-merged.bin"
 }
 
 # wrong_table WORD TITLE LIST FILE ..: a line for each wrong reading that wrong.py lists under the word
@@ -300,7 +308,8 @@ edges() {
     local name failed=0
     python3 "$here/edges.py" write "$records"
     python3 -B "$here/halves.py" write "$records"
-    for name in limits admissions halves; do
+    python3 -B "$here/merged.py" write "$records"
+    for name in limits admissions halves merged; do
         program store split "$streams/requests" "$streams/stored" "$records/edges-$name.bin"
         program oracle <"$streams/requests" >"$streams/rust"
         program oracle --reading <"$streams/requests" >"$streams/reading"

@@ -1,10 +1,11 @@
 #!/usr/bin/env python3
-# Puts one wrong reading of 01, or of 02's orders 1 and 2, into a copy of the folder `scope`, to see whether the generated
+# Puts one wrong reading of 01, or of 02's orders 1 to 3, into a copy of the folder `scope`, to see whether generated
 # requests and the stored list show it. Each is an exact text put for another that must stand there once.
 #
 #   wrong.py list              names all of 01
 #   wrong.py files             names all of 02's order 1
 #   wrong.py halves            names all of 02's order 2
+#   wrong.py merged            names all of 02's order 3
 #   wrong.py NAME FOLDER       writes the copy with that one
 import pathlib
 import shutil
@@ -150,15 +151,62 @@ HALVES = {
     "share-divided-first": ("simplification.rs", SHARE, "p.exponent.over(divisor)?.times(first_exponent(table, p))?"),
 }
 
+# Of order 3: how the own list is made ready, and the steps around it.
+READY = "|left| canonical(table, &left)"
+PLACE = "(table.rows[p.row].key.clone(), table.rows[p.row].rank, p.prefix.kind, p.prefix.n)"
+SORTED = "|mut left| { left.sort_by_key(|p| " + PLACE + "); Ok(left) }"
+IN_GIVEN_ORDER = """|left| {
+    let mut merged: Vec<Part> = Vec::new();
+    for p in left {
+        match merged.iter_mut().find(|m| m.row == p.row && m.prefix == p.prefix) {
+            Some(m) => m.exponent = m.exponent.plus(p.exponent)?,
+            None => merged.push(p),
+        }
+    }
+    merged.retain(|m| m.exponent.num != 0);
+    Ok(merged)
+}"""
+OWN_LEFT = "let own_left = ready(joined(own, &common))?;"
+OWN_GIVEN = "&joined(own, &common)"
+TARGET_READY = "let target_left = canonical(table, &joined(target, &common))?;"
+COMMON = "negated(&common(&own_form, &target_form))"
+POSITIVE = "(true, true) => Some(if own_smaller { own } else { target })"
+UNLIKE = "if own_base != base_exponents"
+CALLED = "fresh(by_rule(&a.table, q.value, &q.unit, &target)?, target)"
+CONVERTED = "use crate::conversion::converted;"
+
+MERGED = {
+    "own-not-merged": ("conversion.rs", READY, "Ok"),
+    "own-sorted-only": ("conversion.rs", READY, SORTED),
+    "own-merged-in-the-given-order": ("conversion.rs", READY, IN_GIVEN_ORDER),
+    "own-scale-of-the-list-as-given": ("conversion.rs", OWN_SCALE, OWN_SCALE.replace("&own_left", OWN_GIVEN)),
+    "own-base-of-the-list-as-given": ("conversion.rs", OWN_BASE, OWN_BASE.replace("&own_left", OWN_GIVEN)),
+    "own-merged-and-target-not": ("conversion.rs", TARGET_READY, "let target_left = joined(target, &common);"),
+    "common-out-of-own-alone": ("conversion.rs", TARGET_READY, "let target_left = target_form;"),
+    "common-out-of-target-alone": ("conversion.rs", OWN_LEFT, "let own_left = ready(own.to_vec())?;"),
+    "common-of-the-lists-as-given": ("conversion.rs", COMMON, "negated(&common(own, target))"),
+    "common-is-the-larger": ("conversion.rs", POSITIVE, POSITIVE.replace("own_smaller", "!own_smaller")),
+    "own-form-after-target's": ("conversion.rs", FORMS, FORMS_TURNED),
+    "own-left-after-target-left": ("conversion.rs", OWN_LEFT, TARGET_LEFT + OWN_LEFT),
+    "own-left-after-its-base": ("conversion.rs", OWN_LEFT, f"base_exponents(&table.rows, {OWN_GIVEN})?;" + OWN_LEFT),
+    "fraction-before-units": ("conversion.rs", UNLIKE, "scale(&table.rows, &own_left)?;" + UNLIKE),
+    "zero-not-kept": ("conversion.rs", " || value == 0.0", ""),
+    "divided-before-multiplied": ("conversion.rs", RESULT, "Ok(value / scale(&table.rows, &target_left)? * own_scale)"),
+    "target-in-canonical-order": ("calls.rs", CALLED, CALLED.replace(", target)", ", canonical(&a.table, &target)?)")),
+    "mark-not-set": ("calls.rs", CALLED, "Quantity { mark: q.mark, .." + CALLED + "}"),
+    "sums-by-order-3": ("sums.rs", CONVERTED, "use crate::conversion::converted_merged as converted;"),
+    "simplified-by-order-3": ("simplification.rs", CONVERTED, "use crate::conversion::converted_merged as converted;"),
+}
+
 
 def main():
-    names = {"list": WRONG, "files": FILES, "halves": HALVES}
+    names = {"list": WRONG, "files": FILES, "halves": HALVES, "merged": MERGED}
     if len(sys.argv) == 2:
         print("\n".join(names[sys.argv[1]]))
         return
     name, folder = sys.argv[1], pathlib.Path(sys.argv[2])
     shutil.copytree(HERE / "scope", folder)
-    file, old, new = (WRONG | FILES | HALVES)[name]
+    file, old, new = (WRONG | FILES | HALVES | MERGED)[name]
     text = (folder / file).read_text()
     if text.count(old) != 1:
         sys.exit(f"wrong: {name} applies {text.count(old)} times")

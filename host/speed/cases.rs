@@ -19,7 +19,10 @@ const SPEED: &[Part] = &[("metre", 3, 1), ("hour", 0, -1)];
 const MILES: &[Part] = &[("mile", 0, 1), ("hour", 0, -1)];
 const SLOW: &[Part] = &[("metre", 0, 1), ("second", 0, -1)];
 const FORCE: &[Part] = &[("gram", 3, 1), ("metre", 0, 1), ("second", 0, -2)];
+const PULL: &[Part] = &[("gram", 3, 1), ("metre", 3, 1), ("hour", 0, -2)];
+const PULL_IN_MILES: &[Part] = &[("gram", 3, 1), ("mile", 0, 1), ("hour", 0, -2)];
 const WORK: &[Part] = &[("newton", 0, 1), ("hour", 0, 1), ("metre", 3, 1), ("minute", 0, -1)];
+const WORK_IN_MILES: &[Part] = &[("newton", 0, 1), ("hour", 0, 1), ("mile", 0, 1), ("minute", 0, -1)];
 const TURNED: &[Part] = &[("minute", 0, -1), ("metre", 3, 1), ("newton", 0, 1), ("hour", 0, 1)];
 
 /// Cases over one table.
@@ -64,6 +67,14 @@ impl Over<'_> {
             all.push(self.case("km/hour to mile/hour", 9, [self.of(88.0, SPEED), self.list(MILES)]));
         }
         all
+    }
+
+    /// Two in which all factors cancel but one.
+    fn cancelling(&self) -> Vec<Case> {
+        vec![
+            self.case("kg·km/hour² to kg·mile/hour²", 9, [self.of(88.0, PULL), self.list(PULL_IN_MILES)]),
+            self.case("4 factors, km to mile", 9, [self.of(88.0, WORK), self.list(WORK_IN_MILES)]),
+        ]
     }
 
     fn arithmetic(&self) -> Vec<Case> {
@@ -139,6 +150,13 @@ pub fn all(named: &Named) -> Vec<Case> {
     let mut all = joined([over.on_lists(), over.conversions(), over.arithmetic(), over.simplification()]);
     all.sort_by_key(|case| case.request.code);
     all
+}
+
+/// Conversions for both rules: those of `all`, and two in which more cancels. The table has a mile.
+pub fn conversions(named: &Named) -> Vec<Case> {
+    let over = Over(named);
+    let all = over.conversions().into_iter().filter(|case| case.request.code == 9);
+    all.chain(over.cancelling()).collect()
 }
 
 /// The calls on a table's file, behind one that does hardly more than admit the table.

@@ -1,4 +1,4 @@
--- The target over the common factors, merged: one walk over two lists that rise gives its canonical form, in any order of rows, ties among them too.
+-- Either list over the common factors, merged: one walk over two lists that rise gives its canonical form, in any order of rows, ties among them too.
 use mathlib.Core.Path.{_≡_, refl, sym, _∙_, ap, subst}
 use mathlib.Core.Bool.{Bool, true, false}
 use mathlib.Core.List.{List, [], _∷_, _++_, map}
@@ -34,11 +34,11 @@ lt-not-gt p q = let z : _≡_ {A = ℕ} 0 1 = cc in omega arith
 
 module _ (cmp : Atom → Atom → Ordering) (O : Weak cmp) where
   -- some factor of the list compares as k does
-  abbrev Found : Atom → List Factor → Type 0
+  abbrev pub Found : Atom → List Factor → Type 0
   Found k [] = ⊥
   Found k (f ∷ l) = (cmp k (atom f) ≡ Ordering·eq) ⊎ Found k l
 
-  abbrev AllFound : List Factor → List Factor → Type 0
+  abbrev pub AllFound : List Factor → List Factor → Type 0
   AllFound l m = All (λ f. Found (atom f) m) l
 
   above-found : (j k : Atom) (l : List Factor) → Above cmp j l → Found k l → cmp j k ≡ Ordering·lt
@@ -46,7 +46,7 @@ module _ (cmp : Atom → Atom → Ordering) (O : Weak cmp) where
   above-found j k (f ∷ l) a (inl e) = O .swaps k j ∙ ap swap (O .like k (atom f) j e ∙ O .swaps j (atom f) ∙ ap swap (a .0))
   above-found j k (f ∷ l) a (inr h) = above-found j k l (a .1) h
 
-  above-like : (j k : Atom) (l : List Factor) → cmp j k ≡ Ordering·eq → Above cmp j l → Above cmp k l
+  pub above-like : (j k : Atom) (l : List Factor) → cmp j k ≡ Ordering·eq → Above cmp j l → Above cmp k l
   above-like j k [] e a = tt
   above-like j k (f ∷ l) e a = (sym (O .like j k (atom f) e) ∙ a .0, above-like j k l e (a .1))
 
@@ -61,13 +61,13 @@ module _ (cmp : Atom → Atom → Ordering) (O : Weak cmp) where
   found-below : (j k : Atom) (l : List Factor) → Above cmp j l → cmp k j ≡ Ordering·lt → Found k l → ⊥
   found-below j k l a p h = lt-not-gt p (O .swaps j k ∙ ap swap (above-found j k l a h))
 
-  found-before : (t : Bool) (y : Factor) (l : List Factor) (k : Atom) → Above cmp (atom y) l → cmp k (atom y) ≡ Ordering·lt → Found k (dropIf t y l) → ⊥
+  pub found-before : (t : Bool) (y : Factor) (l : List Factor) (k : Atom) → Above cmp (atom y) l → cmp k (atom y) ≡ Ordering·lt → Found k (dropIf t y l) → ⊥
   unfolding dropIf
   found-before true y l k a p h = found-below (atom y) k l a p h
   found-before false y l k a p (inl e) = lt-not-eq p e
   found-before false y l k a p (inr h) = found-below (atom y) k l a p h
 
-  all-behind : (t : Bool) (y : Factor) (l xs : List Factor) → Above cmp (atom y) xs → AllFound xs (dropIf t y l) → AllFound xs l
+  pub all-behind : (t : Bool) (y : Factor) (l xs : List Factor) → Above cmp (atom y) xs → AllFound xs (dropIf t y l) → AllFound xs l
   all-behind t y l [] a h = tt
   all-behind t y l (x ∷ xs) a h = (found-behind t y l (atom x) (a .0) (h .0), all-behind t y l xs (a .1) (h .1))
 
@@ -151,7 +151,7 @@ module _ (cmp : Atom → Atom → Ordering) (O : Weak cmp) where
   with-rising (Takes e) f l a r = (a, r)
   with-rising Nothing f l a r = r
 
-  common-rising : (l m : List Factor) → Rising cmp l → Rising cmp (map inverted (common cmp l m))
+  pub common-rising : (l m : List Factor) → Rising cmp l → Rising cmp (map inverted (common cmp l m))
   unfolding common
   common-rising [] m r = tt
   common-rising (f ∷ l) m r = with-rising _ f (common cmp l m) (common-above (atom f) l m (r .0)) (common-rising l m (r .1))
@@ -185,10 +185,28 @@ module _ (cmp : Atom → Atom → Ordering) (O : Weak cmp) where
   with-found (Takes e) f l m p h = (p, h)
   with-found Nothing f l m p h = h
 
-  common-found : (l m : List Factor) → AllFound (map inverted (common cmp l m)) m
+  pub common-found : (l m : List Factor) → AllFound (map inverted (common cmp l m)) m
   unfolding common
   common-found [] m = tt
   common-found (f ∷ l) m = with-found _ f (common cmp l m) m (shared-found f m) (common-found l m)
+
+  -- and in the first
+  pub self : (k : Atom) → cmp k k ≡ Ordering·eq
+  self k = go (cmp k k) refl
+    where
+      go : (o : Ordering) → cmp k k ≡ o → cmp k k ≡ Ordering·eq
+      go Ordering·lt e = absurd (lt-not-gt e (O .swaps k k ∙ ap swap e))
+      go Ordering·eq e = e
+      go Ordering·gt e = absurd (lt-not-gt (O .swaps k k ∙ ap swap e) e)
+
+  all-later : (f : Factor) (l xs : List Factor) → AllFound xs l → AllFound xs (f ∷ l)
+  all-later f l [] h = tt
+  all-later f l (x ∷ xs) h = (inr (h .0), all-later f l xs (h .1))
+
+  pub common-own : (l m : List Factor) → AllFound (map inverted (common cmp l m)) l
+  unfolding common
+  common-own [] m = tt
+  common-own (f ∷ l) m = with-found _ f (common cmp l m) (f ∷ l) (found-here (sharedWith cmp f m) (atom f) f l (self (atom f))) (all-later f l (map inverted (common cmp l m)) (common-own l m))
 
   -- ---- gathered one list after the other
   gather-join : (a l m : List Factor) → gather cmp a (l ++ m) ≡ bind (gather cmp a l) (λ b. gather cmp b m)
@@ -208,7 +226,15 @@ module _ (cmp : Atom → Atom → Ordering) (O : Weak cmp) where
       ∙ ap (λ c. lessen cmp c xs) n
   canon-join (refused w) m c xs g e r h = absurd (let z : _≡_ {A = ℕ} 0 1 = cc in omega arith)
 
+  -- l has the canonical form cl: a list whose form is ck, over what cl shares with cm, is that form lessened, if the shared factors are found in it
+  over-found : (l k cl cm ck : List Factor) → canon cmp l ≡ given cl → canon cmp k ≡ given ck → AllFound (map inverted (common cmp cl cm)) ck → canon cmp (over k (common cmp cl cm)) ≡ lessen cmp ck (map inverted (common cmp cl cm))
+  unfolding canon
+  over-found l k cl cm ck p q h = canon-join (gather cmp [] k) k ck (map inverted (common cmp cl cm)) refl q (common-rising cl cm (take-out (canon-canonical cmp O l) p .rising)) h
+
   -- the target over the common factors of both forms, merged, is the target's form lessened
   pub over-common : (l m cl cm : List Factor) → canon cmp l ≡ given cl → canon cmp m ≡ given cm → canon cmp (over m (common cmp cl cm)) ≡ lessen cmp cm (map inverted (common cmp cl cm))
-  unfolding canon
-  over-common l m cl cm p q = canon-join (gather cmp [] m) m cm (map inverted (common cmp cl cm)) refl q (common-rising cl cm (take-out (canon-canonical cmp O l) p .rising)) (common-found cl cm)
+  over-common l m cl cm p q = over-found l m cl cm cm p q (common-found cl cm)
+
+  -- and so is the own list
+  pub own-common : (l cl cm : List Factor) → canon cmp l ≡ given cl → canon cmp (over l (common cmp cl cm)) ≡ lessen cmp cl (map inverted (common cmp cl cm))
+  own-common l cl cm p = over-found l l cl cm cl p p (common-own cl cm)

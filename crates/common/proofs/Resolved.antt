@@ -16,7 +16,7 @@ use Rattle.canonical.proofs.Total.{byPlace-weak}
 use Rattle.common.specs.Common.{common, over}
 use Rattle.common.specs.Held.{lessen}
 use Rattle.common.proofs.Shaped.{common-kept, common-short, inverted-kept, lessen-kept, lessen-short}
-use Rattle.common.proofs.Merging.{over-common}
+use Rattle.common.proofs.Merging.{over-common, own-common}
 use Rattle.common.proofs.Agreeing.{common-atoms, inverted-atoms, over-atoms, lessen-atoms, common-agrees, lessen-agrees}
 
 -- the view's lists name the row
@@ -50,7 +50,7 @@ module _ (v : View) {l m : Items} (fs gs : List Factor) (rl : Resolved v l fs) (
     placed = rl .placed;
   }
 
-  -- ---- the target over the common factors of both forms, merged, is the target's form lessened
+  -- ---- either list over the common factors of both forms, merged, is its form lessened
   module _ (cl cm : List Factor) (p : canon (v .order) fs ≡ given cl) (q : canon (v .order) gs ≡ given cm) where
     abbrev shared : List Factor
     shared = common (v .order) cl cm
@@ -67,11 +67,21 @@ module _ (v : View) {l m : Items} (fs gs : List Factor) (rl : Resolved v l fs) (
     form-placed : (hs : List Factor) → Atoms (Named v) hs → canon (byPlace v) hs ≡ canon (v .order) hs
     form-placed = canon-agrees (Named v) (byPlace v) (v .order) (rl .placed .order)
 
+    shared-placed : common (byPlace v) cl cm ≡ shared
+    shared-placed = common-agrees (Named v) (byPlace v) (v .order) (rl .placed .order) cl cm own-named target-named
+
+    -- merged by place, and so in the table's order
+    in-order : (hs ch : List Factor) → Atoms (Named v) hs → Atoms (Named v) ch →
+        canon (byPlace v) (over hs (common (byPlace v) cl cm)) ≡ lessen (byPlace v) ch (map inverted (common (byPlace v) cl cm)) → canon (v .order) (over hs shared) ≡ lessen (v .order) ch (map inverted shared)
+    in-order hs ch n k e =
+        sym (form-placed (over hs shared) (over-atoms (Named v) hs shared n shared-named))
+        ∙ ap (λ c. canon (byPlace v) (over hs c)) (sym shared-placed)
+        ∙ e
+        ∙ ap (λ c. lessen (byPlace v) ch (map inverted c)) shared-placed
+        ∙ lessen-agrees (Named v) (byPlace v) (v .order) (rl .placed .order) ch (map inverted shared) k (inverted-atoms (Named v) shared shared-named)
+
     pub over-merged : canon (v .order) (over gs shared) ≡ lessen (v .order) cm (map inverted shared)
-    over-merged =
-        let c : common (byPlace v) cl cm ≡ shared = common-agrees (Named v) (byPlace v) (v .order) (rl .placed .order) cl cm own-named target-named in
-        sym (form-placed (over gs shared) (over-atoms (Named v) gs shared (rm .named) shared-named))
-        ∙ ap (λ c. canon (byPlace v) (over gs c)) (sym c)
-        ∙ over-common (byPlace v) (byPlace-weak v) fs gs cl cm (form-placed fs (rl .named) ∙ p) (form-placed gs (rm .named) ∙ q)
-        ∙ ap (λ c. lessen (byPlace v) cm (map inverted c)) c
-        ∙ lessen-agrees (Named v) (byPlace v) (v .order) (rl .placed .order) cm (map inverted shared) target-named (inverted-atoms (Named v) shared shared-named)
+    over-merged = in-order gs cm (rm .named) target-named (over-common (byPlace v) (byPlace-weak v) fs gs cl cm (form-placed fs (rl .named) ∙ p) (form-placed gs (rm .named) ∙ q))
+
+    pub own-merged : canon (v .order) (over fs shared) ≡ lessen (v .order) cl (map inverted shared)
+    own-merged = in-order fs cl (rl .named) own-named (own-common (byPlace v) (byPlace-weak v) fs cl cm (form-placed fs (rl .named) ∙ p))

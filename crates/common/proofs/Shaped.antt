@@ -26,11 +26,11 @@ use Rattle.common.specs.Held.{taken, lessen}
 
 -- ---- what two factors share is one of their exponents: E holds of exponents
 module _ (E : Exponent → Type 0) where
-  abbrev Has : Shared → Type 0
+  abbrev pub Has : Shared → Type 0
   Has (Takes e) = E e
   Has Nothing = Unit {0}
 
-  meet-has : (x y : Exponent) → E x → E y → Has (meet x y)
+  pub meet-has : (x y : Exponent) → E x → E y → Has (meet x y)
   unfolding meet
   meet-has x y p q =
       pick-is Has (less nought x && less nought y) (pick-is Has (less x y) {a = Takes x} {b = Takes y} p q)

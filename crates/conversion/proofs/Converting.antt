@@ -1,7 +1,7 @@
 -- Conversion as the code works it out: where each step ends it, and what it answers.
 use mathlib.Core.Path.{_≡_, sym, _∙_, ap, ap₂}
 use mathlib.Core.Bool.{true, false, _||_}
-use mathlib.Core.List.{List, [], _∷_, _++_, append-nil, map}
+use mathlib.Core.List.{List, [], _∷_, _++_, append-nil}
 use Prim.Native.Nat.{ℕ}
 use native.Mathlib.Omega.{arith}
 use lib.Ieee.{Float}
@@ -11,7 +11,6 @@ use Rattle.exponents.specs.declared.Exponent.{Exponent}
 use Rattle.exponents.proofs.Holds.{bind-given, bind-refused}
 use Rattle.exponents.proofs.Numbers.{Refuses}
 use Rattle.units.specs.declared.Factor.{Factor}
-use Rattle.units.specs.Lists.{inverted}
 use Rattle.tables.specs.declared.scales.Scaled.the-variants.{Value as Scale, Refused as NoScale}
 use Rattle.tables.specs.Lists.{base}
 use Rattle.tables.specs.Rules.{Rules, scaleBy}
@@ -23,7 +22,7 @@ use Rattle.reduction.proofs.Compared.{packed-same}
 use Rattle.conversion.specs.declared.convert.Converted.the-variants.{Value, Refused}
 use Rattle.common.specs.Common.{common, over}
 use Rattle.common.specs.Held.{lessen}
-use Rattle.conversion.specs.Conversion.{judged, choose, rescaled, against, unlike, convert}
+use Rattle.conversion.specs.Conversion.{judged, choose, rescaled, against, unlike, convertBy}
 use Rattle.conversion.specs.Held.{convertedOf}
 use Rattle.common.proofs.Lessening.{lessen-none}
 
@@ -33,7 +32,7 @@ seen-same v n l m es ds x y e d p q = ap₂ sameAll p q ∙ packed-same es ds (b
 
 -- a step that refuses
 module _ {A : Type 0} {o : Outcome A} (f : A → Outcome Float) where
-  stops : (n : ℕ) → Refuses o n → Refused n ≡ convertedOf (bind o f)
+  pub stops : (n : ℕ) → Refuses o n → Refused n ≡ convertedOf (bind o f)
   stops n r = ap Refused (sym (r .numbered)) ∙ sym (ap convertedOf (bind-refused f (r .is)))
 
 module _ (R : Rules Float) where
@@ -96,45 +95,58 @@ module _ (R : Rules Float) where
           unfolding judged
           units-same h = sym (ap (λ t′. convertedOf (judged t′ (rescaled R own t x))) h) ∙ judges
 
-  -- ---- both canonical forms
-  module _ (l m : List Factor) (x : Float) where
+  -- ---- both canonical forms; `ready` is how the own list over the common factors is made ready
+  module _ (ready : List Factor → Outcome (List Factor)) (l m : List Factor) (x : Float) where
     abbrev converted : Outcome Float
-    converted = convert R l m x
+    converted = convertBy R ready l m x
 
     pub form-stops : (n : ℕ) → Refuses (canon (R .order) l) n → Refused n ≡ convertedOf converted
-    unfolding convert
+    unfolding convertBy
     form-stops n r = stops _ n r
 
     module _ (cl : List Factor) (p : canon (R .order) l ≡ given cl) where
       abbrev with-form : Outcome Float
-      with-form = bind (canon (R .order) m) (λ cm. choose (R .numbers .isZero x || sameList (R .order) cl cm) x (unlike R (common (R .order) cl cm) l m x))
+      with-form = bind (canon (R .order) m) (λ cm. choose (R .numbers .isZero x || sameList (R .order) cl cm) x (unlike R ready (common (R .order) cl cm) l m x))
 
       forms : convertedOf with-form ≡ convertedOf converted
-      unfolding convert
+      unfolding convertBy
       forms = sym (ap convertedOf (bind-given _ p))
 
       pub target-form-stops : (n : ℕ) → Refuses (canon (R .order) m) n → Refused n ≡ convertedOf converted
       target-form-stops n r = stops _ n r ∙ forms
 
       module _ (cm : List Factor) (q : canon (R .order) m ≡ given cm) where
-        chooses : convertedOf (choose (R .numbers .isZero x || sameList (R .order) cl cm) x (unlike R (common (R .order) cl cm) l m x)) ≡ convertedOf converted
+        abbrev unlikes : Outcome Float
+        unlikes = unlike R ready (common (R .order) cl cm) l m x
+
+        chooses : convertedOf (choose (R .numbers .isZero x || sameList (R .order) cl cm) x unlikes) ≡ convertedOf converted
         chooses = sym (ap convertedOf (bind-given _ q)) ∙ forms
 
         pub keeps-value : (R .numbers .isZero x || sameList (R .order) cl cm) ≡ true → Value x ≡ convertedOf converted
         unfolding choose
-        keeps-value h = sym (ap (λ t. convertedOf (choose t x (unlike R (common (R .order) cl cm) l m x))) h) ∙ chooses
+        keeps-value h = sym (ap (λ t. convertedOf (choose t x unlikes)) h) ∙ chooses
 
-        -- the target over the common factors is merged in one walk
-        pub goes-on : canon (R .order) (over m (common (R .order) cl cm)) ≡ lessen (R .order) cm (map inverted (common (R .order) cl cm)) → (R .numbers .isZero x || sameList (R .order) cl cm) ≡ false →
-            convertedOf (against R (over l (common (R .order) cl cm)) (lessen (R .order) cm (map inverted (common (R .order) cl cm))) x) ≡ convertedOf converted
-        unfolding choose unlike
-        goes-on merged h =
-            ap (λ t. convertedOf (against R (over l (common (R .order) cl cm)) t x)) (sym merged)
-            ∙ sym (ap (λ t. convertedOf (choose t x (unlike R (common (R .order) cl cm) l m x))) h)
-            ∙ chooses
+        -- own and target over the common factors, as code has them
+        module _ (own target : Outcome (List Factor)) (e : ready (over l (common (R .order) cl cm)) ≡ own) (f : canon (R .order) (over m (common (R .order) cl cm)) ≡ target) (h : (R .numbers .isZero x || sameList (R .order) cl cm) ≡ false) where
+          pub goes-on : convertedOf (bind own (λ o. against R o target x)) ≡ convertedOf converted
+          unfolding choose unlike
+          goes-on =
+              ap₂ (λ o t. convertedOf (bind o (λ o. against R o t x))) (sym e) (sym f)
+              ∙ sym (ap (λ t. convertedOf (choose t x unlikes)) h)
+              ∙ chooses
+
+          pub own-stops : (n : ℕ) → Refuses own n → Refused n ≡ convertedOf converted
+          own-stops n r = stops _ n r ∙ goes-on
+
+          pub own-given : (o : List Factor) → own ≡ given o → convertedOf (against R o target x) ≡ convertedOf converted
+          own-given o g = sym (ap convertedOf (bind-given _ g)) ∙ goes-on
 
   -- ---- nothing in common: nothing is taken off
   module _ (l m : List Factor) (x : Float) where
     pub none-common : (cs : List Factor) → length cs ≡ 0 → convertedOf (against R l (given m) x) ≡ convertedOf (against R (l ++ cs) (lessen (R .order) m cs) x)
     none-common [] e = ap₂ (λ own target. convertedOf (against R own target x)) (sym (append-nil l)) (sym (lessen-none (R .order) m))
     none-common (c ∷ cs) e = absurd (omega arith)
+
+    pub none-lessened : (cs : List Factor) → length cs ≡ 0 → convertedOf (against R l (given m) x) ≡ convertedOf (bind (lessen (R .order) l cs) (λ own. against R own (lessen (R .order) m cs) x))
+    none-lessened [] e = sym (ap convertedOf (bind-given _ (lessen-none (R .order) l) ∙ ap (λ target. against R l target x) (lessen-none (R .order) m)))
+    none-lessened (c ∷ cs) e = absurd (omega arith)

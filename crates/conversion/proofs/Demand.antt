@@ -27,23 +27,24 @@ use Rattle.canonical.specs.Canonical.{place, insert, gather, dropIf, nonzero, c
 use Rattle.keys.specs.Orders.{isEq}
 use Rattle.canonical.proofs.Total.{orderIn-total}
 use Rattle.common.specs.Common.{meet, ifSame, withShared, sharedWith, common}
-use Rattle.conversion.specs.Conversion.{judged, choose, rescaled, against, unlike, convert}
+use Rattle.conversion.specs.Conversion.{judged, choose, rescaled, against, unlike, standing, convertBy, convert}
 use Rattle.conversion.proofs.Refusals.{given-not-refused}
 use Rattle.conversion.proofs.Cases.{Faithful}
+use Rattle.conversion.proofs.Ready.{stands}
 use Rattle.conversion.proofs.Faithful as f
 
 -- any table t, its rows known as ks
 module _ (t : Rows) (ks : List Facts) where
   abbrev pub Right : (List Factor → List Factor → Float → Outcome Float) → Type 0
-  Right f = Faithful (rulesIn t ks) rational.value f
+  Right f = Faithful (rulesIn t ks) rational.value standing f
 
   -- conversion is right in every case
   pub converts : Right (convert (rulesIn t ks))
-  converts = f.faithful (rulesIn t ks) rational.value (orderIn-total ks)
+  converts = f.faithful (rulesIn t ks) rational.value (orderIn-total ks) standing (stands rational.value)
 
   -- what is right is conversion
   pub alone : (f : List Factor → List Factor → Float → Outcome Float) → Right f → (l m : List Factor) (v : Float) → f l m v ≡ convert (rulesIn t ks) l m v
-  alone = f.only-one (rulesIn t ks) rational.value (orderIn-total ks)
+  alone = f.only-one (rulesIn t ks) rational.value (orderIn-total ks) standing (stands rational.value)
 
 -- ---- in a table of metre, second and minute = 60 second
 abbrev pub sixty : Float
@@ -72,7 +73,7 @@ table = row (pos 1) (pos 0) one 0 true ∷ row (pos 0) (pos 1) one 1 true ∷ ro
 
 -- `unfolding computed` opens what a conversion computes with
 unfoldable computed : Unit {0}
-unfolding worked bind each bitsOf raise power mul div eq toBits ofBits inverted withExponent entry entries baseAt base raisedBy raisedTo scaleFrom expAt scaleAt places placed slotted slotsFrom keyOrder rowOrder place insert gather dropIf nonzero canon isEq sameList sameAll meet ifSame withShared sharedWith common judged choose rescaled against unlike convert
+unfolding worked bind each bitsOf raise power mul div eq toBits ofBits inverted withExponent entry entries baseAt base raisedBy raisedTo scaleFrom expAt scaleAt places placed slotted slotsFrom keyOrder rowOrder place insert gather dropIf nonzero canon isEq sameList sameAll meet ifSame withShared sharedWith common judged choose rescaled against unlike convertBy
 computed = tt
 
 -- the table is admitted, and known as that

@@ -1,4 +1,4 @@
--- Conversion of a value from the list l to the list m (01, "Conversion, sums, comparison", "The refusals"), each step in 01's order. The answer is the value; its list is m as it is spelled.
+-- Conversion of a value from the list l to the list m (01, "Conversion, sums, comparison", "The refusals"), each step in 01's order; and that in which factors cancel on both sides (02, order 3). The answer is the value; its list is m as it is spelled.
 use mathlib.Core.Bool.{Bool, true, false, _||_}
 use mathlib.Core.List.{List}
 use Rattle.exponents.specs.Outcome.{Outcome, given, refused, UNITS, apply, bind}
@@ -19,6 +19,10 @@ module _ {A : Type 0} where
   choose true v o = given v
   choose false v o = o
 
+-- a list as it stands
+abbrev pub standing : List Factor → Outcome (List Factor)
+standing l = given l
+
 -- by the rules R
 module _ {A : Type 0} (R : Rules A) where
   -- own scale, then target scale: the value times the one, divided by the other
@@ -33,12 +37,21 @@ module _ {A : Type 0} (R : Rules A) where
       bind (base (R .bases) t) (λ y.
       judged (sameAll x y) (rescaled own t v))))
 
-  -- lists that differ, with the common factors c: own over common is NOT merged, target over common is canonical
-  unfoldable pub unlike : List Factor → List Factor → List Factor → A → Outcome A
-  unlike c l m v = against (over l c) (canon (R .order) (over m c)) v
+  -- lists that differ, with the common factors c: the own list over them is made ready, then the target over them is made canonical
+  unfoldable pub unlike : (List Factor → Outcome (List Factor)) → List Factor → List Factor → List Factor → A → Outcome A
+  unlike ready c l m v = bind (ready (over l c)) (λ own. against own (canon (R .order) (over m c)) v)
 
-  unfoldable pub convert : List Factor → List Factor → A → Outcome A
-  convert l m v =
+  -- `ready` is how the own list over the common factors is made ready for its base exponents and its scale
+  unfoldable pub convertBy : (List Factor → Outcome (List Factor)) → List Factor → List Factor → A → Outcome A
+  convertBy ready l m v =
       bind (canon (R .order) l) (λ cl.
       bind (canon (R .order) m) (λ cm.
-      choose (R .numbers .isZero v || sameList (R .order) cl cm) v (unlike (common (R .order) cl cm) l m v)))
+      choose (R .numbers .isZero v || sameList (R .order) cl cm) v (unlike ready (common (R .order) cl cm) l m v)))
+
+  -- 01: it stays as it stands, and is NOT merged
+  abbrev pub convert : List Factor → List Factor → A → Outcome A
+  convert = convertBy standing
+
+  -- 02, order 3: it is merged too, into its canonical form, so that factors cancel on both sides
+  abbrev pub cancelling : List Factor → List Factor → A → Outcome A
+  cancelling = convertBy (canon (R .order))

@@ -1,13 +1,13 @@
-// A value converted from one resolved list to another (01, "Conversion, sums, comparison"): RANGE or DENOMINATOR, then UNITS, then FRACTION.
+// A value converted from one resolved list to another (01, "Conversion, sums, comparison"; 02, order 3): RANGE or DENOMINATOR, then UNITS, then FRACTION.
 ghost use mathlib.Core.Path.{_≡_};
 ghost use mathlib.Core.List.{List, _++_};
 ghost use Prim.Native.Nat.{ℕ};
-ghost use Rattle.exponents.specs.Outcome.{given};
+ghost use Rattle.exponents.specs.Outcome.{given, bind};
 ghost use Rattle.units.specs.declared.Factor.{Factor as Factorᵛ};
 ghost use Rattle.tables.specs.Rules.{scaleBy};
 ghost use Rattle.tables.specs.Held.{scaledOf, View, Resolved, Lends, rulesBy};
 ghost use Rattle.conversion.specs.Conversion as spec;
-ghost use Rattle.conversion.specs.Held.{convertedOf, refusedBy};
+ghost use Rattle.conversion.specs.Held.{readyIf, convertedOf, refusedBy};
 ghost use Rattle.common.specs.Held.{lessen};
 use exponents::refusals::UNITS;
 use tables::Items;
@@ -92,9 +92,47 @@ fn unlike(x: f64, l: Items, m: Items, c: Items, n: usize, nums: &[i32], dens: &[
     rescaled(x, s, u)
 }
 
-// x of the list l in the list m, where there are n base rows.
-pub fn convert(x: f64, l: Items, m: Items, n: usize, nums: &[i32], dens: &[u32]) -> Converted
-    ensures { λ r. ⌜ ((v : View) (fs gs : List Factorᵛ) → Lends v n (now (nums .entry)) (now (dens .entry)) → Resolved v l fs → Resolved v m gs → r ≡ convertedOf (spec.convert (rulesBy v n) fs gs x)) ⌝ }
+// Between lists that differ: c has their common factors, inverted, and l and m are canonical forms. Both are merged over c.
+fn lessening(
+    x: f64,
+    l: Items,
+    m: Items,
+    c: Items,
+    n: usize,
+    nums: &[i32],
+    dens: &[u32],
+) -> Converted
+    ensures { λ r. ⌜ ((v : View) (fs gs cs : List Factorᵛ) → Lends v n (now (nums .entry)) (now (dens .entry)) → Resolved v l fs → Resolved v m gs → Resolved v c cs → r ≡ convertedOf (bind (lessen (v .order) fs cs) (λ own. spec.against (rulesBy v n) own (lessen (v .order) gs cs) x))) ⌝ }
+{
+    let o = common::lessened(l, c);
+    if o.refusal != 0 {
+        return Converted::Refused(o.refusal);
+    }
+    let own = o.list;
+    let t = common::lessened(m, c);
+    if t.refusal != 0 {
+        // what the own base exponents are refused by comes first
+        let a = reduction::bases::base_of(own, n, nums, dens);
+        if a.refusal != 0 {
+            return Converted::Refused(a.refusal);
+        }
+        return Converted::Refused(t.refusal);
+    }
+    let u = t.list;
+    apart(x, own, u, n, nums, dens)
+}
+
+// x of the list l in the list m, where there are n base rows. The own list over the common factors is merged too if `merging` says so.
+fn by_rule(
+    x: f64,
+    l: Items,
+    m: Items,
+    merging: bool,
+    n: usize,
+    nums: &[i32],
+    dens: &[u32],
+) -> Converted
+    ensures { λ r. ⌜ ((v : View) (fs gs : List Factorᵛ) → Lends v n (now (nums .entry)) (now (dens .entry)) → Resolved v l fs → Resolved v m gs → r ≡ convertedOf (spec.convertBy (rulesBy v n) (readyIf (v .order) merging) fs gs x)) ⌝ }
 {
     let a = canonical::form::canonical(l);
     if a.refusal != 0 {
@@ -110,8 +148,28 @@ pub fn convert(x: f64, l: Items, m: Items, n: usize, nums: &[i32], dens: &[u32])
         return Converted::Value(x);
     }
     let c = common::over_common(p, q);
+    if merging {
+        if c.len == 0 {
+            return apart(x, p, q, n, nums, dens);
+        }
+        return lessening(x, p, q, c, n, nums, dens);
+    }
     if c.len == 0 {
         return apart(x, l, q, n, nums, dens);
     }
     unlike(x, l, q, c, n, nums, dens)
+}
+
+// x of the list l in the list m, where there are n base rows.
+pub fn convert(x: f64, l: Items, m: Items, n: usize, nums: &[i32], dens: &[u32]) -> Converted
+    ensures { λ r. ⌜ ((v : View) (fs gs : List Factorᵛ) → Lends v n (now (nums .entry)) (now (dens .entry)) → Resolved v l fs → Resolved v m gs → r ≡ convertedOf (spec.convert (rulesBy v n) fs gs x)) ⌝ }
+{
+    by_rule(x, l, m, false, n, nums, dens)
+}
+
+// The same with factors cancelled on both sides (02, order 3).
+pub fn cancelling(x: f64, l: Items, m: Items, n: usize, nums: &[i32], dens: &[u32]) -> Converted
+    ensures { λ r. ⌜ ((v : View) (fs gs : List Factorᵛ) → Lends v n (now (nums .entry)) (now (dens .entry)) → Resolved v l fs → Resolved v m gs → r ≡ convertedOf (spec.cancelling (rulesBy v n) fs gs x)) ⌝ }
+{
+    by_rule(x, l, m, true, n, nums, dens)
 }

@@ -3,6 +3,7 @@
 ghost use Rattle.asklists.specs.Calls as lists;
 ghost use Rattle.askvalues.specs.Calls as values;
 ghost use Rattle.asksimplify.specs.Calls as simplify;
+ghost use Rattle.askconversions.specs.Calls as conversions;
 ghost use Rattle.demsharin.specs.Exports.{Exported};
 
 #[no_mangle]
@@ -167,6 +168,19 @@ pub extern "C" fn demsharin_convert_to(
     ensures { λ r. ⌜ Exported (now (out .entry)) (values.convertTo (now (table .entry)) (now (quantity .entry)) (now (target .entry))) r (now (out .exit)) ⌝ }
 {
     let r = askvalues::convert_to(table, quantity, target, out);
+    r.refusal
+}
+
+#[no_mangle]
+pub extern "C" fn demsharin_convert_merged(
+    table: &[u8],
+    quantity: &[u8],
+    target: &[u8],
+    out: &mut [u8],
+) -> u32
+    ensures { λ r. ⌜ Exported (now (out .entry)) (conversions.convertMerged (now (table .entry)) (now (quantity .entry)) (now (target .entry))) r (now (out .exit)) ⌝ }
+{
+    let r = askconversions::convert_merged(table, quantity, target, out);
     r.refusal
 }
 

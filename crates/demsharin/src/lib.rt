@@ -6,6 +6,7 @@ pub use lentcalls::canonical;
 pub use lentcalls::checked_div;
 pub use lentcalls::checked_power;
 pub use lentcalls::compare;
+pub use lentcalls::convert_merged;
 pub use lentcalls::convert_to;
 pub use lentcalls::equal;
 pub use lentcalls::full_simplify;
@@ -27,5 +28,5 @@ pub use lentfiles::read_table;
 pub use lentfiles::salvage_table;
 pub use lentfiles::write_table;
 
-pub mod exports; // every call of 01 as a C function over bytes
+pub mod exports; // every call of 01, and 02's conversions, as C functions over bytes
 pub mod files; // the calls on table files as C functions over bytes

@@ -30,12 +30,14 @@ use Rattle.tables.specs.Lists.{base}
 use Rattle.tables.specs.Rows.{Facts, bases, defOf, tableFault, rowExps, rowScale, workedOut, rowFacts, Admission, admitted, stopped, admitOn, admitFrom, rowsOf, admit, known, table, baseRows}
 use Rattle.tables.specs.Rules.{Rules, rulesIn, scaleBy}
 use Rattle.canonical.proofs.Total.{orderIn-total}
-use Rattle.conversion.specs.Conversion.{convert}
+use Rattle.canonical.specs.Canonical.{canon}
+use Rattle.conversion.specs.Conversion.{standing, convertBy}
 use Rattle.conversion.proofs.Cases as conversion
 use Rattle.conversion.proofs.Refusals.{given-not-refused}
+use Rattle.conversion.proofs.Ready.{Ready, stands, merges}
 use Rattle.conversion.proofs.Faithful.{range-exactly}
 use Rattle.values.specs.Quantities.{made}
-use Rattle.quantities.specs.Calls.{convertTo}
+use Rattle.quantities.specs.Calls.{convertWith, convertTo, convertMerged}
 use Rattle.simplification.specs.Steps.{Amount, quantityOf, simplify}
 use Rattle.simplification.specs.Calls.{fullSimplify}
 use Rattle.registry.specs.Registry.{candidateLists, registered}
@@ -54,13 +56,23 @@ module _ (t : Rows) (ks : List Facts) (k : table t ≡ given ks) (q : Quantity) 
 
   -- ---- conversion: fs is its list, gs the target
   module _ (m : Factors) (fs gs : List Factor) (h : both (length ks) (q .unit) m ≡ given (fs, gs)) where
-    converts : convertTo t q m ≡ apply (λ v. made true v gs) (convert rules fs gs (q .value))
-    unfolding convertTo
-    converts = bind-given _ k ∙ bind-given _ h
+    -- by either rule: `ready` is how the own list over the common factors is made ready
+    module _ (ready : Rules Float → List Factor → Outcome (List Factor)) (K : Ready value (ready rules)) where
+      converts : convertWith t (λ R. convertBy R (ready R)) q m ≡ apply (λ v. made true v gs) (convertBy rules (ready rules) fs gs (q .value))
+      converts = bind-given _ k ∙ bind-given _ h
+
+      stops-by : (r : Refusal) → OutOfRange r → (convertWith t (λ R. convertBy R (ready R)) q m ≡ refused r) ↔ conversion.Stopped rules value (ready rules) fs gs (q .value) r
+      stops-by r range = through (is converts) (through (apply-exactly _ (convertBy rules (ready rules) fs gs (q .value)) r) (range-exactly rules value (orderIn-total ks) (ready rules) K fs gs (q .value) r range))
 
     -- THEOREM: `convert_to` stops where the conversion does
-    pub convert-stops : (r : Refusal) → OutOfRange r → (convertTo t q m ≡ refused r) ↔ conversion.Stopped rules value fs gs (q .value) r
-    convert-stops r range = through (is converts) (through (apply-exactly _ (convert rules fs gs (q .value)) r) (range-exactly rules value (orderIn-total ks) fs gs (q .value) r range))
+    pub convert-stops : (r : Refusal) → OutOfRange r → (convertTo t q m ≡ refused r) ↔ conversion.Stopped rules value standing fs gs (q .value) r
+    unfolding convertTo
+    convert-stops = stops-by (λ R. standing) (stands value)
+
+    -- THEOREM: and so does `convert_merged`
+    pub merged-stops : (r : Refusal) → OutOfRange r → (convertMerged t q m ≡ refused r) ↔ conversion.Stopped rules value (canon (rules .order)) fs gs (q .value) r
+    unfolding convertMerged
+    merged-stops = stops-by (λ R. canon (R .order)) (merges value rules (orderIn-total ks))
 
   -- ---- simplification: fs is its list
   module _ (fs : List Factor) (h : checked (length ks) (q .unit) ≡ given fs) where

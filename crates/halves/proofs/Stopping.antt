@@ -20,8 +20,9 @@ use Rattle.tables.specs.Rules.{Rules, scaleBy}
 use Rattle.tables.proofs.Total.{Total}
 use Rattle.canonical.specs.Canonical.{canon, sameAll}
 use Rattle.reduction.specs.Reduction.{reduced}
-use Rattle.conversion.specs.Conversion.{convert}
+use Rattle.conversion.specs.Conversion.{standing, convert}
 use Rattle.conversion.proofs.Cases.{Stopped, at-own}
+use Rattle.conversion.proofs.Ready.{stands}
 use Rattle.conversion.proofs.Faithful.{convert-only, range-exactly}
 use Rattle.conversion.proofs.Refusals.{given-not-refused, range-not-units, range-not-fraction, fraction-only, scale-is}
 use Rattle.targets.specs.Single.{single}
@@ -38,7 +39,7 @@ module _ (R : Rules Float) where
   pub data GroupsHalt (r : Refusal) : Float → List Factor → List (List Factor) → Type 0 where
     at-form : {s : Float} {u : List Factor} → canon (R .order) u ≡ refused r → GroupsHalt r s u []
     at-target : {s : Float} {u g : List Factor} {gs : List (List Factor)} → target R g ≡ refused r → GroupsHalt r s u (g ∷ gs)
-    at-convert : {s : Float} {u g m : List Factor} {gs : List (List Factor)} → target R g ≡ given m → Stopped R value g m one r → GroupsHalt r s u (g ∷ gs)
+    at-convert : {s : Float} {u g m : List Factor} {gs : List (List Factor)} → target R g ≡ given m → Stopped R value standing g m one r → GroupsHalt r s u (g ∷ gs)
     at-rest : {s : Float} {u g : List Factor} {gs : List (List Factor)} {p : Amount} → grown R s u g ≡ given p → GroupsHalt r (p .0) (p .1) gs → GroupsHalt r s u (g ∷ gs)
 
   -- the conversion to scalar is refused by UNITS; c is the canonical form
@@ -48,9 +49,9 @@ module _ (R : Rules Float) where
 
   -- r is the refusal of the first of the three steps' conversions, searches and targets that refuses
   pub data Halts (v : Float) (l : List Factor) (r : Refusal) : Type 0 where
-    at-scalar : Stopped R value l [] v r → Halts v l r
+    at-scalar : Stopped R value standing l [] v r → Halts v l r
     at-single : {c : List Factor} → NoScalar v l c → single (R .bases) c ≡ refused r → Halts v l r
-    at-one : {c m : List Factor} {f : Factor} → NoScalar v l c → single (R .bases) c ≡ given (f ∷ m) → Stopped R value l (f ∷ m) v r → Halts v l r
+    at-one : {c m : List Factor} {f : Factor} → NoScalar v l c → single (R .bases) c ≡ given (f ∷ m) → Stopped R value standing l (f ∷ m) v r → Halts v l r
     at-groups : {c : List Factor} → NoScalar v l c → single (R .bases) c ≡ given [] → GroupsHalt r one [] (groups (R .alike) c) → Halts v l r
 
   -- ---- the registry form
@@ -58,7 +59,7 @@ module _ (R : Rules Float) where
   -- the candidates in turn, `best` the best so far; `now` is what is left, xs its base exponents and s its scale
   pub data CandidatesHalt (xs : List Exponent) (s : Float) (now : Amount) (r : Refusal) : Amount → List (List Factor) → Type 0 where
     at-candidate : {best : Amount} {m : List Factor} {ms : List (List Factor)} → ltb (length m) (length (now .1)) ≡ true → base (R .bases) m ≡ refused r → CandidatesHalt xs s now r best (m ∷ ms)
-    at-fitting : {best : Amount} {m : List Factor} {ms : List (List Factor)} → fitting R (length (now .1)) xs s m ≡ given true → Stopped R value (now .1) m (now .0) r → CandidatesHalt xs s now r best (m ∷ ms)
+    at-fitting : {best : Amount} {m : List Factor} {ms : List (List Factor)} → fitting R (length (now .1)) xs s m ≡ given true → Stopped R value standing (now .1) m (now .0) r → CandidatesHalt xs s now r best (m ∷ ms)
     at-later : {best b : Amount} {m : List Factor} {ms : List (List Factor)} → turn R xs s now best m ≡ given (stays b) → CandidatesHalt xs s now r b ms → CandidatesHalt xs s now r best (m ∷ ms)
 
   -- two or more factors are left, with base exponents xs and scale s
@@ -70,7 +71,7 @@ module _ (R : Rules Float) where
   -- r is the refusal of the first that refuses: the base exponents of what is left, the conversion to the single base unit, or a candidate
   pub data RegistryHalts (ss : List Slot) (ms : List (List Factor)) (now : Amount) (r : Refusal) : Type 0 where
     at-left : ltb 1 (length (now .1)) ≡ true → base (R .bases) (now .1) ≡ refused r → RegistryHalts ss ms now r
-    at-unit : {xs : List Exponent} {s : Float} → Left now xs s → (isSingle (reduced ss xs) && nearOne s) ≡ true → Stopped R value (now .1) (reduced ss xs) (now .0) r → RegistryHalts ss ms now r
+    at-unit : {xs : List Exponent} {s : Float} → Left now xs s → (isSingle (reduced ss xs) && nearOne s) ≡ true → Stopped R value standing (now .1) (reduced ss xs) (now .0) r → RegistryHalts ss ms now r
     at-candidates : {xs : List Exponent} {s : Float} → Left now xs s → (isSingle (reduced ss xs) && nearOne s) ≡ false → CandidatesHalt xs s now r now ms → RegistryHalts ss ms now r
 
   -- both in turn: simplification halts, or it answers and the registry form halts
@@ -84,8 +85,8 @@ scale-answers R r range l e = range-not-fraction r range (only-out (fraction-onl
 
 -- ---- the proofs, at a refusal r of what leaves the range
 module _ (R : Rules Float) (O : Total (R .order)) (r : Refusal) (range : OutOfRange r) where
-  stops : (l m : List Factor) (v : Float) → (convert R l m v ≡ refused r) ↔ Stopped R value l m v r
-  stops l m v = range-exactly R value O l m v r range
+  stops : (l m : List Factor) (v : Float) → (convert R l m v ≡ refused r) ↔ Stopped R value standing l m v r
+  stops l m v = range-exactly R value O standing (stands value) l m v r range
 
   -- ---- from step to step
 
@@ -108,7 +109,7 @@ module _ (R : Rules Float) (O : Total (R .order)) (r : Refusal) (range : OutOfRa
   Told s = eqb (number s) (number UNITS) ≡ true → s ≡ UNITS
 
   tells : (l m : List Factor) (v : Float) → Only Told (convert R l m v)
-  tells l m v = convert-only R value O Told others (λ e. absurd (true≢false (sym e))) l m v (λ _ _. refl)
+  tells l m v = convert-only R value O standing (stands value) Told others (λ e. absurd (true≢false (sym e))) l m v (λ _ _. refl)
     where
       others : (s : Refusal) → OutOfRange s → Told s
       others s by-numerator e = absurd (true≢false (sym e))

@@ -33,7 +33,7 @@ use Rattle.powers.specs.Whole.{wholeExponent}
 use Rattle.powers.specs.Powers.{over1, raisedTo}
 use Rattle.powers.specs.Calls as powers
 use Rattle.halves.specs.Wholes.{WholeExponent, WholeFactor, WholeList, WholeRows}
-use Rattle.halves.proofs.Wholes.{Spared, gives, stops, Any, never, spared-unless, spared-map, spared-bind, spared-each, mul-whole, ranged-whole, WholeBase, base-whole, canon-whole, inverted-whole, scale-spared, convert-whole}
+use Rattle.halves.proofs.Wholes.{Spared, gives, stops, Any, never, spared-unless, spared-map, spared-bind, spared-each, mul-whole, ranged-whole, WholeBase, base-whole, canon-whole, inverted-whole, scale-spared, convert-whole, cancelling-whole}
 use Rattle.halves.proofs.WholeTables.{table-whole, rules-whole}
 
 -- ---- the lists of a call
@@ -179,6 +179,11 @@ module _ (t : Rows) (w : WholeRows t) where
     pub convert-never : (m : Factors) → WholeList m → quantities.convertTo t q m ≡ refused DENOMINATOR → ⊥
     unfolding quantities.convertTo
     convert-never m k = never (of-two (q .unit) m _ h k λ ks d p c. spared-map {Q = Any} _ (convert-whole (rulesIn t ks) d (p .0) (p .1) (q .value) (c .0) (c .1)) λ v _. tt)
+
+    -- THEOREM: and with factors cancelled on both sides (02, order 3)
+    pub merged-never : (m : Factors) → WholeList m → quantities.convertMerged t q m ≡ refused DENOMINATOR → ⊥
+    unfolding quantities.convertMerged
+    merged-never m k = never (of-two (q .unit) m _ h k λ ks d p c. spared-map {Q = Any} _ (cancelling-whole (rulesIn t ks) d (p .0) (p .1) (q .value) (c .0) (c .1)) λ v _. tt)
 
   -- ---- two quantities
   module _ (q p : Quantity) (h : WholeList (q .unit)) (k : WholeList (p .unit)) where

@@ -20,7 +20,7 @@ use Rattle.canonical.specs.Canonical.{place, nonzero, insert, gather, canon, sa
 use Rattle.canonical.proofs.Keeping.{all-append, drop-keeps}
 use Rattle.common.specs.Common.{common, over}
 use Rattle.common.proofs.Shaped.{common-all}
-use Rattle.conversion.specs.Conversion.{judged, choose, against, unlike, convert}
+use Rattle.conversion.specs.Conversion.{judged, choose, against, unlike, standing, convertBy, convert, cancelling}
 use Rattle.conversion.proofs.Refusals.{fraction-only, scale-is, rescaled-is}
 use Rattle.halves.specs.Wholes.{WholeExponent, WholeFactor}
 
@@ -173,13 +173,21 @@ module _ {A : Type 0} (R : Rules A) (w : All WholeBase (R .bases)) where
       spared-bind _ (base-whole (R .bases) t w q) λ y _.
       judged-whole (sameAll x y) (spared-only (fraction-only Other refl (rescaled-is R own t v)))
 
-  unlike-whole : (c l m : List Factor) (v : A) → All WholeFactor c → All WholeFactor l → All WholeFactor m → Spared Any (unlike R c l m v)
-  unfolding unlike
-  unlike-whole c l m v d h k = against-whole (over l c) v (over-whole l c h d) (canon-whole (R .order) (over m c) (over-whole m c k d))
+  -- by either rule: `ready` is how the own list over the common factors is made ready, and keeps its exponents whole
+  module _ (ready : List Factor → Outcome (List Factor)) (readied : (l : List Factor) → All WholeFactor l → Spared (All WholeFactor) (ready l)) where
+    unlike-whole : (c l m : List Factor) (v : A) → All WholeFactor c → All WholeFactor l → All WholeFactor m → Spared Any (unlike R ready c l m v)
+    unfolding unlike
+    unlike-whole c l m v d h k = spared-bind _ (readied (over l c) (over-whole l c h d)) λ own p. against-whole own v p (canon-whole (R .order) (over m c) (over-whole m c k d))
+
+    pub by-whole : (l m : List Factor) (v : A) → All WholeFactor l → All WholeFactor m → Spared Any (convertBy R ready l m v)
+    unfolding convertBy
+    by-whole l m v h k =
+        spared-bind _ (canon-whole (R .order) l h) λ cl p.
+        spared-bind _ (canon-whole (R .order) m k) λ cm q.
+        choose-whole _ v (unlike-whole _ l m v (common-whole (R .order) cl cm p q) h k)
 
   pub convert-whole : (l m : List Factor) (v : A) → All WholeFactor l → All WholeFactor m → Spared Any (convert R l m v)
-  unfolding convert
-  convert-whole l m v h k =
-      spared-bind _ (canon-whole (R .order) l h) λ cl p.
-      spared-bind _ (canon-whole (R .order) m k) λ cm q.
-      choose-whole _ v (unlike-whole _ l m v (common-whole (R .order) cl cm p q) h k)
+  convert-whole = by-whole standing (λ l h. gives h)
+
+  pub cancelling-whole : (l m : List Factor) (v : A) → All WholeFactor l → All WholeFactor m → Spared Any (cancelling R l m v)
+  cancelling-whole = by-whole (canon (R .order)) (canon-whole (R .order))

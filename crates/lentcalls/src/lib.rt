@@ -137,6 +137,12 @@ pub fn convert_to(rows: &[Row], q: Quantity, target: Factors) -> Answer
     quantities::conversions::convert_to(lent::rows_of(rows), q, target)
 }
 
+pub fn convert_merged(rows: &[Row], q: Quantity, target: Factors) -> Answer
+    ensures { λ r. ⌜ r ≡ answeredOf (quantities.convertMerged (lentRows (now (rows .entry))) q target) ⌝ }
+{
+    quantities::conversions::convert_merged(lent::rows_of(rows), q, target)
+}
+
 pub fn add(rows: &[Row], q: Quantity, p: Quantity) -> Answer
     ensures { λ r. ⌜ r ≡ answeredOf (sums.add (lentRows (now (rows .entry))) q p) ⌝ }
 {

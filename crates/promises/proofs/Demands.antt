@@ -1,5 +1,5 @@
 -- DEMAND 3, sentence by sentence, at the calls that users make: units obey exponent algebra. Everything here is in an admitted table, with no exponent leaving 01's range.
-use mathlib.Core.Path.{_≡_, sym, _∙_, ap}
+use mathlib.Core.Path.{_≡_, refl, sym, _∙_, ap}
 use mathlib.Core.Bool.{false, _&&_, _||_}
 use mathlib.Core.Logic.{_↔_}
 use mathlib.Core.List.{List, [], _∷_, _++_, map as along}
@@ -42,9 +42,10 @@ use Rattle.reduction.specs.Reduction.{reduced}
 use Rattle.reduction.specs.Reduction as reductions
 use Rattle.lists.specs.Calls as lists
 use Rattle.common.specs.Common.{common, over}
-use Rattle.conversion.specs.Conversion.{convert}
+use Rattle.conversion.specs.Conversion.{standing, convert}
 use Rattle.conversion.specs.Fractional.{fractional}
-use Rattle.conversion.proofs.Cases.{Reduced, value as scaled}
+use Rattle.conversion.proofs.Ready.{stands}
+use Rattle.conversion.proofs.Cases.{Reduced}
 use Rattle.conversion.proofs.Refusals.{Fraction}
 use Rattle.values.specs.Quantities.{fresh}
 use Rattle.values.specs.Calls.{multiply, checkedDiv}
@@ -144,33 +145,36 @@ module _ (t : Rows) (ks : List Facts) (k : table t ≡ given ks) where
       pub over-form : canon (rules .order) (over gs (common (rules .order) cl cm)) ≡ given l
       pub target-base : Has l y
 
-    module _ (nonzero : isZero (q .value) ≡ false) (unequal : lists.sameLists t (q .unit) m ≡ given false) {cl cm l : List Factor} {x y : List Exponent} (s : InRange cl cm l x y) where
-      differ : cl ≡ cm → ⊥
-      unfolding lists.sameLists equality.equal
-      differ e =
-          let says : lists.sameLists t (q .unit) m ≡ given (sameList (rules .order) cl cm) = bind-given _ k ∙ bind-given _ h ∙ bind-given _ (s .own-form) ∙ ap (apply (sameList (rules .order) cl)) (s .target-form) in
-          let no : sameList (rules .order) cl cm ≡ false = one-answer (sym says ∙ unequal) in
-          same-list (rules .order) (orderIn-total ks) cl cm .nay no e
+    -- `same_list` says no: the canonical forms differ
+    pub forms-differ : lists.sameLists t (q .unit) m ≡ given false → {cl cm : List Factor} → canon (rules .order) fs ≡ given cl → canon (rules .order) gs ≡ given cm → cl ≡ cm → ⊥
+    unfolding lists.sameLists equality.equal
+    forms-differ unequal {cl} {cm} own target e =
+        let says : lists.sameLists t (q .unit) m ≡ given (sameList (rules .order) cl cm) = bind-given _ k ∙ bind-given _ h ∙ bind-given _ own ∙ ap (apply (sameList (rules .order) cl)) target in
+        let no : sameList (rules .order) cl cm ≡ false = one-answer (sym says ∙ unequal) in
+        same-list (rules .order) (orderIn-total ks) cl cm .nay no e
 
-      steps : Reduced rules value fs gs (q .value) cl cm x l y
+    module _ (nonzero : isZero (q .value) ≡ false) (unequal : lists.sameLists t (q .unit) m ≡ given false) {cl cm l : List Factor} {x y : List Exponent} (s : InRange cl cm l x y) where
+      steps : Reduced rules value standing fs gs (q .value) cl cm (over fs (common (rules .order) cl cm)) x l y
       steps = record {
-        lists = record { own = s .own-form; target = s .target-form; nonzero = nonzero; differ = differ };
+        lists = record { own = s .own-form; target = s .target-form; nonzero = nonzero; differ = forms-differ unequal (s .own-form) (s .target-form) };
+        readied = refl;
         steps = record { own-base = s .own-base; target-is = s .over-form; target-base = s .target-base };
       }
 
       pub units-exactly : (convertTo t q m ≡ refused UNITS) ↔ (SameBase fs gs → ⊥)
-      units-exactly = conversion.units-exactly t ks k q m fs gs h steps
+      unfolding convertTo
+      units-exactly = conversion.units-exactly (λ R. standing) t ks k (stands value) q m fs gs h steps
 
       -- the own scale is that of the own list over the common factors, not merged; the target scale that of the target over them, in canonical form
       pub scaled-value : SameBase fs gs → (own target : Float) → Scale (over fs (common (rules .order) cl cm)) ≡ given own → Scale l ≡ given target →
           convertTo t q m ≡ given (fresh (div ieee.binary64 (mul ieee.binary64 (q .value) own) target) gs)
-      scaled-value a own target p r =
-          conversion.converts t ks k q m fs gs h (scaled steps a)
-          ∙ ap (apply (conversion.inTarget t ks k q m fs gs h)) (bind-given _ p ∙ ap (apply (λ u. div ieee.binary64 (mul ieee.binary64 (q .value) own) u)) r)
+      unfolding convertTo
+      scaled-value = conversion.scaled-value (λ R. standing) t ks k (stands value) q m fs gs h steps
 
       -- FRACTION exactly where a size other than 1 meets an exponent that isn't whole, in one of the two scales; else it answers
       pub fraction-exactly : SameBase fs gs → Fraction (fractional rules (over fs (common (rules .order) cl cm)) || fractional rules l) (convertTo t q m)
-      fraction-exactly = conversion.fraction-exactly t ks k q m fs gs h steps
+      unfolding convertTo
+      fraction-exactly = conversion.fraction-exactly (λ R. standing) t ks k (stands value) q m fs gs h steps
 
   -- ---- "full simplification of a nonzero value, if it answers, keeps base exponents"
 

@@ -32,7 +32,7 @@ use Rattle.exponents.proofs.Words.{pick-is}
 use Rattle.reduction.specs.Multiple.{Maybe, times, none}
 use Rattle.reduction.specs.Reduction as reductions
 use Rattle.lists.specs.Calls as lists
-use Rattle.conversion.specs.Conversion.{convert}
+use Rattle.conversion.specs.Conversion.{standing, convert}
 use Rattle.values.specs.Quantities.{made, fresh}
 use Rattle.values.specs.Calls as values
 use Rattle.quantities.specs.Calls as quantities
@@ -116,7 +116,11 @@ module _ (t : Rows) (q : Quantity) where
 
     pub convert-fits : (m : Factors) → Holds QuantityFits (quantities.convertTo t q m)
     unfolding quantities.convertTo
-    convert-fits m = of-two t (q .unit) m _ λ ks fs gs h k. holds-map _ (convert-value t ks fs gs (q .value) v) λ x f. made-fits true x gs f k
+    convert-fits m = of-two t (q .unit) m _ λ ks fs gs h k. holds-map _ (convert-value t ks standing fs gs (q .value) v) λ x f. made-fits true x gs f k
+
+    pub merged-fits : (m : Factors) → Holds QuantityFits (quantities.convertMerged t q m)
+    unfolding quantities.convertMerged
+    merged-fits m = of-two t (q .unit) m _ λ ks fs gs h k. holds-map _ (convert-value t ks _ fs gs (q .value) v) λ x f. made-fits true x gs f k
 
     pub simplify-fits : Holds QuantityFits (simplification.fullSimplify t q)
     unfolding simplification.fullSimplify
@@ -128,7 +132,7 @@ module _ (t : Rows) (q : Quantity) where
     with-fits c = of-one t (q .unit) _ λ ks k fs h. holds-bind _ (candidates-all Bounds (length ks) (checked-bounds t ks k) c) λ ms b.
         pick-is (Holds QuantityFits) (q .mark) {b = given (made false (q .value) fs)}
         (amounts-fit (holds-bind _ (simplify-amount t ks (q .value) fs v h) λ a j.
-        let to : (m : List Factor) → Bounds m → Holds (λ x. AmountFits (x, m)) (convert (rulesIn t ks) (a .1) m (a .0)) = λ m i. holds-imp (convert-value t ks (a .1) m (a .0) (j .0)) λ x f. (f, i) in
+        let to : (m : List Factor) → Bounds m → Holds (λ x. AmountFits (x, m)) (convert (rulesIn t ks) (a .1) m (a .0)) = λ m i. holds-imp (convert-value t ks standing (a .1) m (a .0) (j .0)) λ x f. (f, i) in
         registered-any (rulesIn t ks) a AmountFits (baseRows t) ms j (λ xs e. to _ (reduced-bounds t ks k (a .1) xs e)) (all-imp ms to b)))
         (held (made-fits false (q .value) fs v h))
 

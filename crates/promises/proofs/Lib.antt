@@ -2,6 +2,7 @@ pub mod Saying
 pub mod Bench
 pub mod Pinned
 pub mod Halving
+pub mod Cancelling
 pub mod Conversion
 pub mod Products
 pub mod Unadmitted
@@ -19,3 +20,4 @@ pub mod Contents
 pub mod Misread
 pub mod Shipped
 pub mod Shipping
+pub mod Merged

@@ -13,7 +13,7 @@ use Rattle.units.specs.declared.Rows.{Rows}
 use Rattle.tables.specs.Scale.{scaleFrom, doubles}
 use Rattle.tables.specs.Rows.{Facts}
 use Rattle.tables.specs.Rules.{Rules, rulesIn, scaleBy}
-use Rattle.conversion.specs.Conversion.{judged, choose, rescaled, against, unlike, convert}
+use Rattle.conversion.specs.Conversion.{judged, choose, rescaled, against, unlike, standing, convertBy, convert}
 use Rattle.sums.specs.Sums.{combined}
 use Rattle.targets.specs.Groups.{groups}
 use Rattle.simplification.specs.Steps.{Amount, converted, byGroups, further, simplify}
@@ -55,11 +55,11 @@ module _ (t : Rows) (ks : List Facts) where
   scale-value l = scale-from (rules .size) one l (bits-fit _)
 
   -- the value is kept, or divided
-  pub convert-value : (l m : List Factor) (v : Float) → ValueFits v → Holds ValueFits (convert rules l m v)
-  unfolding convert unlike against rescaled
-  convert-value l m v h =
+  pub convert-value : (ready : List Factor → Outcome (List Factor)) (l m : List Factor) (v : Float) → ValueFits v → Holds ValueFits (convertBy rules ready l m v)
+  unfolding convertBy unlike against rescaled
+  convert-value ready l m v h =
       holds-bind _ (holds-any _) λ cl _. holds-bind _ (holds-any _) λ cm _. choose-holds _ v h
-      (holds-bind _ (holds-any _) λ x _. holds-bind _ (holds-any _) λ n _. holds-bind _ (holds-any _) λ y _. judged-holds _
+      (holds-bind _ (holds-any _) λ own _. holds-bind _ (holds-any _) λ x _. holds-bind _ (holds-any _) λ n _. holds-bind _ (holds-any _) λ y _. judged-holds _
       (holds-bind _ (holds-any _) λ s _. holds-all _ (scaleBy rules n) λ d. div-fits binary64 _ d))
 
   -- simplification
@@ -69,8 +69,8 @@ module _ (t : Rows) (ks : List Facts) where
 
   further-value : (v : Float) (l : List Factor) → ValueFits v → Holds OfValue (further rules v l)
   unfolding further
-  further-value v l h = holds-bind _ (holds-any _) λ c _. holds-bind _ (holds-any _) λ m _. toward-holds OfValue rules v l m (byGroups rules v c) (convert-value l m v h) (groups-value v c)
+  further-value v l h = holds-bind _ (holds-any _) λ c _. holds-bind _ (holds-any _) λ m _. toward-holds OfValue rules v l m (byGroups rules v c) (convert-value standing l m v h) (groups-value v c)
 
   pub simplify-value : (v : Float) (l : List Factor) → ValueFits v → Holds OfValue (simplify rules v l)
   unfolding simplify
-  simplify-value v l h = attempt-holds OfValue (convert rules l [] v) [] (further rules v l) (convert-value l [] v h) (further-value v l h)
+  simplify-value v l h = attempt-holds OfValue (convert rules l [] v) [] (further rules v l) (convert-value standing l [] v h) (further-value v l h)

@@ -33,7 +33,7 @@ use Rattle.reduction.specs.Reduction as reductions
 use Rattle.reduction.specs.Reduction.{baseFactors, reduced, reducedScale}
 use Rattle.lists.specs.Calls as lists
 use Rattle.common.specs.Common.{meet, ifSame, withShared, sharedWith, common}
-use Rattle.conversion.specs.Conversion.{judged, choose, rescaled, against, unlike, convert}
+use Rattle.conversion.specs.Conversion.{judged, choose, rescaled, against, unlike, convertBy}
 use Rattle.values.specs.Quantities.{made}
 use Rattle.values.specs.Calls as values
 use Rattle.quantities.specs.Comparisons.{equalTo, ordered}
@@ -133,6 +133,9 @@ module _ (t : Rows) where
   abbrev pub convertTo : Quantity → List Factor → Says
   convertTo q l = says quantity (call.convertTo t q (pack l))
 
+  abbrev pub convertMerged : Quantity → List Factor → Says
+  convertMerged q l = says quantity (call.convertMerged t q (pack l))
+
   abbrev pub equal : Quantity → Quantity → Says
   equal q p = says same (call.equal t q p)
 
@@ -156,5 +159,5 @@ module _ (t : Rows) where
 
 -- `unfolding computed` opens what the calls are worked out by
 unfoldable pub computed : Unit {0}
-unfolding over lentRows says ranked unless bind each worked bitsOf raise power ieee.add ieee.sub ieee.mul ieee.div ieee.neg ieee.eq ieee.lt ieee.le ieee.isNan ieee.rem ieee.toSigned toBits ofBits pack factorFault some checked both withExponent joined inverted raised factors.product factors.quotient factors.listPower baseAt base multiple whole wholes divisor below turn shrink keys.reduce key entry entries other first raisedBy raisedTo scaleFrom expAt scaleAt places placed slotted slotsFrom isBase count kindFault tableFault rowExps rowScale workedOut rowFacts admitFrom admit keyOrder rowOrder place insert gather dropIf nonzero canon isEq sameList sameAll allNought forms.equal firstBase fits multipleOf isMultiple baseFactors reduced reducedScale reductions.reduction reductions.smallerUnit lists.product lists.quotient lists.listPower lists.canonical lists.reduction lists.sameLists lists.smallerUnit lists.multiple meet ifSame withShared sharedWith common judged choose rescaled against unlike convert whole.isWhole whole.isBeyond whole.wholeExponent powers.raisedTo values.reduce equalTo ordered call.convertTo call.equal call.compare together nonzeroSum sums.summed sums.add sums.subtract power-of.checkedPower single.wholly single.search single.single groups.onto groups.groups groups.above groups.greatest groups.share groups.summed groups.fitted groups.target steps.goOn steps.attempt steps.grown steps.converted steps.byGroups steps.toward steps.further steps.simplify simplification.fullSimplify registry.listsFrom registry.candidateLists registry.nearOne registry.larger registry.close registry.isSingle registry.after registry.fitting registry.turn registry.chosen registry.settled registry.registered registry-form.fullSimplifyWith
+unfolding over lentRows says ranked unless bind each worked bitsOf raise power ieee.add ieee.sub ieee.mul ieee.div ieee.neg ieee.eq ieee.lt ieee.le ieee.isNan ieee.rem ieee.toSigned toBits ofBits pack factorFault some checked both withExponent joined inverted raised factors.product factors.quotient factors.listPower baseAt base multiple whole wholes divisor below turn shrink keys.reduce key entry entries other first raisedBy raisedTo scaleFrom expAt scaleAt places placed slotted slotsFrom isBase count kindFault tableFault rowExps rowScale workedOut rowFacts admitFrom admit keyOrder rowOrder place insert gather dropIf nonzero canon isEq sameList sameAll allNought forms.equal firstBase fits multipleOf isMultiple baseFactors reduced reducedScale reductions.reduction reductions.smallerUnit lists.product lists.quotient lists.listPower lists.canonical lists.reduction lists.sameLists lists.smallerUnit lists.multiple meet ifSame withShared sharedWith common judged choose rescaled against unlike convertBy whole.isWhole whole.isBeyond whole.wholeExponent powers.raisedTo values.reduce equalTo ordered call.convertTo call.convertMerged call.equal call.compare together nonzeroSum sums.summed sums.add sums.subtract power-of.checkedPower single.wholly single.search single.single groups.onto groups.groups groups.above groups.greatest groups.share groups.summed groups.fitted groups.target steps.goOn steps.attempt steps.grown steps.converted steps.byGroups steps.toward steps.further steps.simplify simplification.fullSimplify registry.listsFrom registry.candidateLists registry.nearOne registry.larger registry.close registry.isSingle registry.after registry.fitting registry.turn registry.chosen registry.settled registry.registered registry-form.fullSimplifyWith
 computed = tt

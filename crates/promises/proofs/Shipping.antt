@@ -24,6 +24,7 @@ use Rattle.tables.specs.Rows.{Facts, table}
 use Rattle.tables.specs.Rules.{rulesIn}
 use Rattle.lists.specs.Calls.{sameLists}
 use Rattle.common.specs.Common.{common, over}
+use Rattle.conversion.specs.Conversion.{standing}
 use Rattle.conversion.proofs.Cases.{Stopped}
 use Rattle.values.specs.Quantities.{fresh, answeredOf}
 use Rattle.values.specs.declared.answers.Answer.{Answer}
@@ -65,8 +66,8 @@ module _ (rs : List Row) (ks : List Facts) (k : table (lentRows rs) ≡ given ks
 module _ (rs : List Row) (q : Quantity) (m : Factors) (r : Answer) (contract : r ≡ answeredOf (convertTo (lentRows rs) q m)) where
   -- exactly where one of the five steps does, with the refusal of the first
   pub lent-stops : (ks : List Facts) → table (lentRows rs) ≡ given ks → (fs gs : List Factor) → both (length ks) (q .unit) m ≡ given (fs, gs) →
-      (w : Refusal) → OutOfRange w → (outcomeIn r ≡ refused w) ↔ Stopped (rulesIn (lentRows rs) ks) value fs gs (q .value) w
-  lent-stops ks k fs gs h w range = over-rows (λ o. (o ≡ refused w) ↔ Stopped (rulesIn (lentRows rs) ks) value fs gs (q .value) w) (convertTo (lentRows rs) q m) (convert-stops (lentRows rs) ks k q m fs gs h w range) r contract
+      (w : Refusal) → OutOfRange w → (outcomeIn r ≡ refused w) ↔ Stopped (rulesIn (lentRows rs) ks) value standing fs gs (q .value) w
+  lent-stops ks k fs gs h w range = over-rows (λ o. (o ≡ refused w) ↔ Stopped (rulesIn (lentRows rs) ks) value standing fs gs (q .value) w) (convertTo (lentRows rs) q m) (convert-stops (lentRows rs) ks k q m fs gs h w range) r contract
 
   -- where every denominator given is 1, never DENOMINATOR
   pub lent-never : WholeRows (lentRows rs) → WholeList (q .unit) → WholeList m → outcomeIn r ≡ refused DENOMINATOR → ⊥
@@ -94,10 +95,10 @@ module _ (tb qb mb : List ℕ) where
 
     module _ (contract : Exported room (askvalues.convertTo tb qb mb) n end) where
       pub exported-stops : (ks : List Facts) → table t ≡ given ks → (fs gs : List Factor) → both (length ks) (q .unit) m ≡ given (fs, gs) →
-          (w : Refusal) → OutOfRange w → (outcomeFrom n end ≡ refused w) ↔ Stopped (rulesIn t ks) value fs gs (q .value) w
+          (w : Refusal) → OutOfRange w → (outcomeFrom n end ≡ refused w) ↔ Stopped (rulesIn t ks) value standing fs gs (q .value) w
       unfolding askvalues.convertTo
       exported-stops ks k fs gs h w range =
-          over-bytes (λ o. (o ≡ refused w) ↔ Stopped (rulesIn t ks) value fs gs (q .value) w) (convertTo t q m) (convert-stops t ks k q m fs gs h w range) (convert-fits t q (read-fits qb) m) room long n end contract
+          over-bytes (λ o. (o ≡ refused w) ↔ Stopped (rulesIn t ks) value standing fs gs (q .value) w) (convertTo t q m) (convert-stops t ks k q m fs gs h w range) (convert-fits t q (read-fits qb) m) room long n end contract
 
       pub exported-never : WholeRows t → WholeList (q .unit) → WholeList m → outcomeFrom n end ≡ refused DENOMINATOR → ⊥
       unfolding askvalues.convertTo

@@ -39,8 +39,9 @@ use Rattle.tablefiles.specs.Calls as files
 use Rattle.tablefiles.proofs.Sized.{read-few, read-full, kept-few, kept-full}
 use Rattle.filepromises.proofs.Files.{file-brief}
 use Rattle.askfiles.specs.Calls as askfiles
+use Rattle.askconversions.specs.Calls as askconversions
 use Rattle.askfiles.proofs.Rowed.{Full, rows-sized}
-use Rattle.codefiles.specs.Calls as codefiles
+use Rattle.codeadded.specs.Calls as codeadded
 use Rattle.stream.specs.Calls.{calls, callOf}
 use Rattle.stream.specs.Stream.{longest, lent, answerTo, answered}
 use Rattle.stream.proofs.Answering.{lent-length}
@@ -143,12 +144,13 @@ file-bounded t room =
 rows-bounded : (other : ℕ) (rs : List Row) → length rs ≤ 128 → Full rs → NoLonger (askfiles.rowsReply other rs)
 rows-bounded other rs h k = omega (arith, rows-sized other rs k)
 
-files-bounded : Each NoLonger codefiles.calls
-unfolding codefiles.calls askfiles.readTable askfiles.salvageTable
-files-bounded =
+added-bounded : Each NoLonger codeadded.calls
+unfolding codeadded.calls askfiles.readTable askfiles.salvageTable askconversions.convertMerged
+added-bounded =
     (λ t r _. file-bounded t (wordFrom r))
     and (λ f p _. holds-map (askfiles.rowsReply 0) (holds-eq (files.readTable (wordFrom p) f)) λ rs e. rows-bounded 0 rs (read-few (wordFrom p) f rs e .0) (read-full (wordFrom p) f rs e))
     and (λ f p _. held (rows-bounded (files.salvage (wordFrom p) f .1) (files.salvage (wordFrom p) f .0) (kept-few (wordFrom p) f .0) (kept-full (wordFrom p) f)))
+    and (λ t a b. holds-imp (quantity-short (fitting.merged-fits (tableFrom t) (quantityFrom a) (read-fits a) (listFrom b))) (λ l h. omega (arith, h)))
     and done
 
 module _ {P : List ℕ → Type 0} where
@@ -168,7 +170,7 @@ at-most (b and d) = (λ x y z. holds-imp (b x y z) λ bs h. omega arith) and at-
 
 calls-bounded : Each NoLonger calls
 unfolding calls
-calls-bounded = joined (at-most lists-short) (joined (at-most values-short) (joined (at-most simplify-short) files-bounded))
+calls-bounded = joined (at-most lists-short) (joined (at-most values-short) (joined (at-most simplify-short) added-bounded))
 
 pub no-longer : (code : ℕ) (s : List ℕ) → Holds NoLonger (answerTo code s)
 unfolding answerTo callOf

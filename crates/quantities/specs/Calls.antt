@@ -1,24 +1,34 @@
 -- Conversion and comparison of quantities (01, "Conversion, sums, comparison", "The refusals"): the table is admitted, the lists are checked in argument order, then the call's own work is done.
 use mathlib.Core.Bool.{Bool, _||_}
+use mathlib.Core.List.{List}
 use Prim.Native.Nat.{Ordering}
-use lib.Ieee.{isNan}
+use lib.Ieee.{Float, isNan}
 use lib.ListN.{length}
 use Rattle.exponents.specs.Outcome.{Outcome, NAN, unless, apply, bind}
+use Rattle.units.specs.declared.Factor.{Factor}
 use Rattle.units.specs.declared.Factors.{Factors}
 use Rattle.units.specs.declared.Quantity.{Quantity}
 use Rattle.units.specs.declared.Rows.{Rows}
 use Rattle.units.specs.Lists.{both}
 use Rattle.tables.specs.Rows.{table}
-use Rattle.tables.specs.Rules.{rulesIn}
-use Rattle.conversion.specs.Conversion.{convert}
+use Rattle.tables.specs.Rules.{Rules, rulesIn}
+use Rattle.conversion.specs.Conversion.{convert, cancelling}
 use Rattle.values.specs.Quantities.{fresh}
 use Rattle.quantities.specs.Comparisons.{equalTo, ordered}
 
 module _ (t : Rows) where
   -- ---- conversion
 
+  -- by f, which converts values between lists by a table's rules
+  abbrev pub convertWith : (Rules Float → List Factor → List Factor → Float → Outcome Float) → Quantity → Factors → Outcome Quantity
+  convertWith f q m = bind (table t) (λ ks. bind (both (length ks) (q .unit) m) (λ p. apply (λ v. fresh v (p .1)) (f (rulesIn t ks) (p .0) (p .1) (q .value))))
+
   unfoldable pub convertTo : Quantity → Factors → Outcome Quantity
-  convertTo q m = bind (table t) (λ ks. bind (both (length ks) (q .unit) m) (λ p. apply (λ v. fresh v (p .1)) (convert (rulesIn t ks) (p .0) (p .1) (q .value))))
+  convertTo = convertWith (λ R. convert R)
+
+  -- 02, order 3
+  unfoldable pub convertMerged : Quantity → Factors → Outcome Quantity
+  convertMerged = convertWith (λ R. cancelling R)
 
   -- ---- comparison: the second is converted to the first's list
 

@@ -15,8 +15,9 @@ use Rattle.canonical.specs.Canonical.{canon, sameAll}
 use Rattle.canonical.proofs.Algebra.{exact, exact-join, exact-canon, exact-equal}
 use Rattle.canonical.proofs.Bases.{Agree, base-decides, agree-map, agree-all}
 use Rattle.canonical.proofs.Decides.{found}
-use Rattle.conversion.specs.Conversion.{convert}
+use Rattle.conversion.specs.Conversion.{standing, convert}
 use Rattle.conversion.proofs.Cases.{Case, zero, equal, stopped, units, value, answer}
+use Rattle.conversion.proofs.Ready.{stands}
 use Rattle.conversion.proofs.Faithful.{case, faithful}
 
 module _ (W : Value) where
@@ -53,7 +54,7 @@ module _ (W : Value) where
 
     -- ---- a conversion of a nonzero value that answers: the lists agree
     module _ (l m : List Factor) (v : A) (n : R .numbers .isZero v ≡ false) where
-      answer-agree : (k : Case R W l m v) → Holds (λ _. Agree W (R .bases) l m) (answer R W k)
+      answer-agree : (k : Case R W standing l m v) → Holds (λ _. Agree W (R .bases) l m) (answer R W standing k)
       answer-agree (zero el em z) = absurd (true≢false (sym z ∙ n))
       answer-agree (equal {c} el em) = held (agree-all W (R .bases) l m (exact-equal W (R .order) O l m c el em))
       answer-agree (stopped s) = moot
@@ -61,4 +62,4 @@ module _ (W : Value) where
       answer-agree (value s a) = holds-by _ _ λ _ _. a
 
       pub convert-agree : Holds (λ _. Agree W (R .bases) l m) (convert R l m v)
-      convert-agree = subst (λ o. Holds (λ _. Agree W (R .bases) l m) o) (sym (faithful R W O l m v (case R W O l m v))) (answer-agree (case R W O l m v))
+      convert-agree = subst (λ o. Holds (λ _. Agree W (R .bases) l m) o) (sym (faithful R W O standing (stands W) l m v (case R W O standing (stands W) l m v))) (answer-agree (case R W O standing (stands W) l m v))

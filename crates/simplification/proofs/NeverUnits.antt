@@ -20,13 +20,14 @@ use Rattle.canonical.specs.Canonical.{canon, sameAll, allNought}
 use Rattle.canonical.proofs.Bases.{Agree}
 use Rattle.exponents.proofs.Words.{pick-is}
 use Rattle.reduction.specs.Multiple.{Maybe, times, none, firstBase, fits, multipleOf, isMultiple}
+use Rattle.conversion.proofs.Ready.{stands}
 use Rattle.conversion.proofs.Faithful.{convert-only}
 use Rattle.conversion.proofs.Refusals.{range-not-units, units-not-fraction, sum-only, each-only, base-only, canon-only}
 use Rattle.targets.specs.Single.{wholly, search, single}
 use Rattle.targets.specs.Groups.{share, summed, fitted, target, groups}
 use Rattle.targets.proofs.Multiplied.{single-found}
 use Rattle.tables.specs.Rules.{Rules}
-use Rattle.conversion.specs.Conversion.{convert}
+use Rattle.conversion.specs.Conversion.{standing, convert}
 use Rattle.simplification.proofs.Agreed.{agree-trans, canon-agree}
 use Rattle.simplification.specs.Steps.{Amount, goOn, attempt, grown, converted, byGroups, toward, further, simplify}
 
@@ -103,11 +104,11 @@ module _ (R : Rules Float) (O : Total (R .order)) where
   module _ (S : Refusal → Type 0) (range : (r : Refusal) → OutOfRange r → S r) (fraction : S FRACTION) where
     -- a conversion between lists that agree
     pub agreeing-only : (l m : List Factor) (v : Float) → Agree value (R .bases) l m → Only S (convert R l m v)
-    agreeing-only l m v a = convert-only R value O S range fraction l m v (λ n. absurd (n a))
+    agreeing-only l m v a = convert-only R value O standing (stands value) S range fraction l m v (λ n. absurd (n a))
 
     -- any other, or by UNITS
     tried-only : (l m : List Factor) (v : Float) → Only (λ r. NotUnits r → S r) (convert R l m v)
-    tried-only l m v = convert-only R value O (λ r. NotUnits r → S r) (λ r h _. range r h) (λ _. fraction) l m v (λ _ n. absurd (n refl))
+    tried-only l m v = convert-only R value O standing (stands value) (λ r. NotUnits r → S r) (λ r h _. range r h) (λ _. fraction) l m v (λ _ n. absurd (n refl))
 
     grown-only : (s : Float) (u g : List Factor) → Keeps g → Only S (grown R s u g)
     unfolding grown

@@ -50,7 +50,7 @@ module _ (Q : Factor → Type 0) (stays : (f : Factor) (e : Exponent) → Q f �
 
   pub canon-within : (n : ℕ) (l : List Factor) → Within Q n l → Holds (Within Q n) (canon (R .order) l)
   canon-within n l h =
-      holds-imp (holds-both (canon-short (R .order) l) (canon-keeps Q (λ x y p q. holds-imp (add-sound (y .exponent) (x .exponent)) (λ e. stays y e q)) (R .order) l (h .1)))
+      holds-imp (holds-both (canon-short (R .order) l) (canon-keeps Q (R .order) (λ x y _ p q. holds-imp (add-sound (y .exponent) (x .exponent)) (λ e. stays y e q)) l (h .1)))
       λ c k. (omega (arith, h .0, k .0), k .1)
 
   pub grown-within : (n : ℕ) (s : Float) (u g : List Factor) → Within Q n u → All Q g → Holds (Lists (suc n)) (grown R s u g)

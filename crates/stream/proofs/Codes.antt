@@ -10,7 +10,7 @@ use Rattle.codevalues.specs.Calls as values
 use Rattle.codevalues.proofs.Proper as in-values
 use Rattle.codesimplify.specs.Calls as simplify
 use Rattle.codesimplify.proofs.Proper as in-simplify
-use Rattle.codefiles.specs.Calls as files
+use Rattle.codeadded.specs.Calls as added
 use Rattle.stream.specs.Calls.{calls, callOf}
 
 module _ (n k : ℕ) (e : k ≡ look lists.calls n .arity) where
@@ -24,12 +24,12 @@ module _ (n k : ℕ) (e : k ≡ look lists.calls n .arity) where
     of-values h = look-second _ lists.calls _ n in-lists.calls-proper (sym e ∙ z) ∙ look-first values.calls _ n (λ y. h (f ∙ y))
 
     module _ (y : m ≡ 0) (l : ℕ) (g : l ≡ look simplify.calls n .arity) where
-      behind : callOf n ≡ look (simplify.calls ++ files.calls) n
+      behind : callOf n ≡ look (simplify.calls ++ added.calls) n
       unfolding callOf calls
       behind = look-second _ lists.calls _ n in-lists.calls-proper (sym e ∙ z) ∙ look-second _ values.calls _ n in-values.calls-proper (sym f ∙ y)
 
       pub of-simplify : (l ≡ 0 → ⊥) → callOf n ≡ look simplify.calls n
       of-simplify h = behind ∙ look-first simplify.calls _ n (λ x. h (g ∙ x))
 
-      pub of-files : l ≡ 0 → callOf n ≡ look files.calls n
-      of-files x = behind ∙ look-second _ simplify.calls _ n in-simplify.calls-proper (sym g ∙ x)
+      pub of-added : l ≡ 0 → callOf n ≡ look added.calls n
+      of-added x = behind ∙ look-second _ simplify.calls _ n in-simplify.calls-proper (sym g ∙ x)

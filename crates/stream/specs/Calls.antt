@@ -5,10 +5,10 @@ use Rattle.codes.specs.Codes.{Call, look}
 use Rattle.codelists.specs.Calls as lists
 use Rattle.codevalues.specs.Calls as values
 use Rattle.codesimplify.specs.Calls as simplify
-use Rattle.codefiles.specs.Calls as files
+use Rattle.codeadded.specs.Calls as added
 
 unfoldable pub calls : List Call
-calls = lists.calls ++ (values.calls ++ (simplify.calls ++ files.calls))
+calls = lists.calls ++ (values.calls ++ (simplify.calls ++ added.calls))
 
 unfoldable pub callOf : ℕ → Call
 callOf n = look calls n

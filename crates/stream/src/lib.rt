@@ -61,7 +61,7 @@ fn arity(code: u32) -> u32
     if s != 0 {
         return s;
     }
-    codefiles::arity(code)
+    codeadded::arity(code)
 }
 
 fn cut(kind: u32) -> Frame
@@ -137,7 +137,7 @@ fn call(code: u32, a: &[u8], b: &[u8], c: &[u8], out: &mut [u8]) -> Reply
     if codesimplify::arity(code) != 0 {
         return codesimplify::call(code, a, b, c, out);
     }
-    codefiles::call(code, a, b, c, out)
+    codeadded::call(code, a, b, c, out)
 }
 
 // Answers the request with this code and these bytes behind it.

@@ -116,7 +116,7 @@ module _ (ks : List Facts) (i : ℕ) where
       λ x. bind (raisedTo doubles (mul ieee.binary64 (factorOf (f .prefix)) (p x .scale)) (f .exponent)) (λ v. scale-same (mul ieee.binary64 s v) l (or-right (unknown i f) (some (unknown i) l) e) x)
 
 -- a definition without a fault names lower rows only
-lower : (js : List Facts) (r : Row) → tableFault js r ≡ false → some (unknown (length js)) (defOf r) ≡ false
+pub lower : (js : List Facts) (r : Row) → tableFault js r ≡ false → some (unknown (length js)) (defOf r) ≡ false
 unfolding tableFault
 lower js r e = or-right (some (λ k. eqb (k .rank) (r .rank)) js || kindFault (r .kind) (count js) (r .len) || ltb 8 (r .len)) (some (unknown (length js)) (defOf r)) e
 

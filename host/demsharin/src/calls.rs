@@ -126,6 +126,13 @@ impl Table {
         quantity(|out| exports::convert_to(&self.bytes, &bytes::quantity(q), &bytes::list(target), out))
     }
 
+    /// The same with factors common to both units cancelled on both sides: a unit that cancels is not read, so it neither
+    /// refuses nor rounds. The value may differ in its last places from [`Table::convert_to`]'s. RANGE or DENOMINATOR,
+    /// UNITS, FRACTION.
+    pub fn convert_merged(&self, q: &Quantity, target: &List) -> Result<Quantity, Refusal> {
+        quantity(|out| exports::convert_merged(&self.bytes, &bytes::quantity(q), &bytes::list(target), out))
+    }
+
     /// The value with the other sign.
     pub fn negate(&self, q: &Quantity) -> Result<Quantity, Refusal> {
         quantity(|out| exports::negate(&self.bytes, &bytes::quantity(q), out))

@@ -50,4 +50,5 @@ exported! {
     demsharin_write_table as write_table(table);
     demsharin_read_table as read_table(file);
     demsharin_salvage_table as salvage_table(file);
+    demsharin_convert_merged as convert_merged(table, quantity, target);
 }

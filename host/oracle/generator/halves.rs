@@ -3,10 +3,12 @@
 use scope::fractions::{Fraction, gcd};
 use scope::tables::Known;
 use scope::{calls, places};
+use wire::calls::{CONVERT_MERGED, CONVERT_TO};
 use wire::records::{Candidate, Exponent, Factor, LIST_PLACES, List, METRIC, Prefix, Quantity, Row};
 use wire::refusals::{DENOMINATOR, RANGE};
 use wire::stream::Request;
 
+use crate::cancelling;
 use crate::files;
 use crate::lists;
 use crate::random::Random;
@@ -18,6 +20,9 @@ use crate::values;
 const LARGE: [i64; 10] = [2147483647, 2147483647, 2147483646, 1 << 30, 715827883, 65537, 65536, 46341, 32768, 32767];
 const ODD: [i64; 11] = [2147483647, 2147483629, 1 << 30, 131071, 65537, 65537, 65536, 65521, 46349, 46341, 46337];
 const SMALL: [(i64, i64); 9] = [(1, 1), (1, 1), (1, 1), (2, 1), (3, 1), (1, 2), (1, 3), (2, 3), (3, 2)];
+/// Exponents whose sums stay in range in this order, and often in no other.
+const THERE_AND_BACK: [[(i32, u32); 3]; 3] =
+    [[(i32::MAX, 1), (-1, 1), (1, 1)], [(1, 65536), (-1, 65536), (1, 65537)], [(i32::MAX, 2), (-i32::MAX, 2), (1, 3)]];
 
 /// Steps that most requests which leave a range don't get past.
 const EARLY: [&str; 6] = [
@@ -29,12 +34,13 @@ const EARLY: [&str; 6] = [
     "simplification: to scalar",
 ];
 
-/// Some drafts, until one is refused by either half, or by a later step; one in three is taken as it comes.
+/// Some drafts, until one is refused by either half, or by a later step, or by one of the two conversions alone; one in
+/// three is taken as it comes.
 pub fn draft(random: &mut Random, code: u32) -> Draft {
     let (tries, late) = random.pick(&[(1, false), (6, false), (20, true)]);
     let mut taken = drafted(random, code);
     for _ in 1..tries {
-        if refused(&taken.request(), late && matches!(code, 9 | 14 | 17 | 18 | 20..=22)) {
+        if refused(&taken.request(), late && matches!(code, 9 | 14 | 17 | 18 | 20..=22 | 27)) {
             break;
         }
         taken = drafted(random, code);
@@ -44,16 +50,26 @@ pub fn draft(random: &mut Random, code: u32) -> Draft {
 
 fn refused(request: &Request, late: bool) -> bool {
     match late {
+        true if request.code == CONVERT_MERGED => by_one_rule(request),
         true => places::of(request).and_then(|place| place.step).is_some_and(|step| !EARLY.contains(&step)),
         false => matches!(calls::given(request), Err(RANGE | DENOMINATOR)),
     }
+}
+
+/// Whether one of the two conversions is refused by a half and the other isn't.
+fn by_one_rule(request: &Request) -> bool {
+    let by = |code| {
+        let asked = Request { code, arguments: request.arguments.clone() };
+        matches!(calls::given(&asked), Err(RANGE | DENOMINATOR))
+    };
+    by(CONVERT_TO) != by(CONVERT_MERGED)
 }
 
 fn drafted(random: &mut Random, code: u32) -> Draft {
     if code == 1 {
         return requests::draft(random, code, 3);
     }
-    let mut made = table(random);
+    let mut made = if code == CONVERT_MERGED && random.percent(50) { over_one(random) } else { table(random) };
     let mut parts = parts(random, &made, code);
     let bare = matches!(code, 2 | 3 | 12 | 13 | 15 | 16 | 23..=26);
     if random.percent(if bare { 60 } else { 12 }) {
@@ -93,6 +109,7 @@ fn parts(random: &mut Random, made: &Made, code: u32) -> Vec<Part> {
             vec![Part::Quantity(q), Part::Candidates(candidates)]
         }
         24..=26 => file_parts(random, made, code).expect("a call on files"),
+        27 => cancelling(random, made),
         _ => vec![Part::Quantity(quantity_for(random, made, code))],
     }
 }
@@ -157,6 +174,17 @@ fn table(random: &mut Random) -> Made {
         so_far = made(rows).unwrap_or(so_far);
     }
     so_far
+}
+
+/// Rows over one base row of two, some of them to an exponent whose roots are whole in base units.
+fn over_one(random: &mut Random) -> Made {
+    let mut rows = vec![base_row(random.below(50) as u16), base_row(60)];
+    for _ in 0..4 + random.below(4) {
+        let (num, den) = random.pick(&[(1, 1), (1, 1), (1, 1), (65536, 1), (65537, 1), (1, 2), (1, 5)]);
+        let def = vec![Factor { exponent: lowest(random, (num, den)), ..lists::plain(0) }];
+        rows.push(derived_row(unused_rank(random, &rows), random.pick(&[1.0, 1.0, 1.0, 60.0]), def));
+    }
+    made(rows).expect("exponents in range")
 }
 
 fn derived(random: &mut Random, so_far: &Made) -> Row {
@@ -262,6 +290,16 @@ fn of_one_key(random: &mut Random, made: &Made) -> List {
     List::of(factors)
 }
 
+/// Rows with the exponents of one base unit.
+fn there_and_back(random: &mut Random, made: &Made) -> List {
+    let rows = &made.table.rows;
+    let base = &rows[random.pick(&bases(made))].exponents;
+    let mut alike: Vec<usize> = (0..rows.len()).filter(|at| rows[*at].exponents == *base).collect();
+    random.shuffle(&mut alike);
+    let factor = |(row, (num, den))| Factor { exponent: Exponent { num, den }, ..lists::plain(row as u32) };
+    List::of(alike.into_iter().zip(random.pick(&THERE_AND_BACK)).map(factor).collect())
+}
+
 /// No two factors merge.
 fn spread(random: &mut Random, made: &Made) -> List {
     let mut rows: Vec<u32> = (0..made.rows.len() as u32).collect();
@@ -302,6 +340,19 @@ fn power(random: &mut Random, made: &Made) -> Vec<Part> {
     let unit = if random.percent(50) { List::of(Vec::new()) } else { list(random, made) };
     let exponent = Quantity { bits: values::whole(random).to_bits(), mark: 1, unit };
     vec![Part::Quantity(base), Part::Quantity(exponent)]
+}
+
+/// Lists that mostly have a canonical form, so that a later step decides.
+fn cancelling(random: &mut Random, made: &Made) -> Vec<Part> {
+    let unit = match random.below(5) {
+        0 => list(random, made),
+        1 => gentle(random, made),
+        2 => of_one_key(random, made),
+        3 => there_and_back(random, made),
+        _ => spread(random, made),
+    };
+    let (own, target) = cancelling::both(random, made, unit, coefficient);
+    vec![Part::Quantity(quantity_of(random, own)), Part::List(target)]
 }
 
 /// Two lists with exponents of their own at each base row, or one a power of the other.

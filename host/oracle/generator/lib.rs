@@ -1,6 +1,7 @@
 // A seeded generator of requests: realistic and random admitted tables, lists that convert, values of every sort.
 //
 // It asks the crate `scope` for base exponents and scales, so that most requests lie inside the equality domain.
+pub mod cancelling;
 pub mod faults;
 pub mod files;
 pub mod halves;

@@ -69,7 +69,7 @@ fn length(random: &mut Random) -> usize {
     }
 }
 
-fn opposite(f: Factor) -> Factor {
+pub fn opposite(f: Factor) -> Factor {
     Factor { exponent: Exponent { num: -f.exponent.num, ..f.exponent }, ..f }
 }
 

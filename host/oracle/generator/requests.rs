@@ -4,6 +4,7 @@ use wire::bytes::*;
 use wire::records::{Candidate, Exponent, Factor, List, Quantity, bits_of};
 use wire::stream::Request;
 
+use crate::cancelling;
 use crate::files;
 use crate::lists::{self, fraction_exponent, raised, whole_exponent};
 use crate::random::Random;
@@ -48,6 +49,7 @@ pub fn draft(random: &mut Random, code: u32, limit: usize) -> Draft {
         22 => with_candidates(random, &made),
         24 => vec![Part::Lent(files::room(random, file(&made).len()))],
         25 | 26 => vec![Part::File(file(&made)), Part::Lent(files::places(random, made.rows.len()))],
+        27 => cancelling(random, &made),
         _ => vec![Part::Quantity(quantity(random, &made))],
     };
     Draft { code, made, parts }
@@ -121,6 +123,12 @@ fn conversion(random: &mut Random, made: &Made) -> Vec<Part> {
     let own = quantity(random, made);
     let target = beside(random, made, &own.unit);
     vec![Part::Quantity(own), Part::List(target)]
+}
+
+fn cancelling(random: &mut Random, made: &Made) -> Vec<Part> {
+    let unit = lists::list(random, made);
+    let (own, target) = cancelling::both(random, made, unit, any_exponent);
+    vec![Part::Quantity(quantity_of(random, own)), Part::List(target)]
 }
 
 fn two_quantities(random: &mut Random, made: &Made, code: u32) -> Vec<Part> {

@@ -36,7 +36,7 @@ fn replaced(list: &List, at: usize, by: &[Factor]) -> List {
     List::of(factors)
 }
 
-fn shuffled(random: &mut Random, list: &List) -> Option<List> {
+pub fn shuffled(random: &mut Random, list: &List) -> Option<List> {
     let mut factors = list.factors.clone();
     random.shuffle(&mut factors);
     Some(List::of(factors))
@@ -71,7 +71,7 @@ fn with_prefix(random: &mut Random, list: &List, at: usize) -> Option<List> {
     Some(replaced(list, at, &[Factor { prefix: prefix(random), ..*factor }]))
 }
 
-fn split(random: &mut Random, list: &List, at: usize) -> Option<List> {
+pub fn split(random: &mut Random, list: &List, at: usize) -> Option<List> {
     let factor = list.factors.get(at)?;
     let part = Fraction::of(whole_exponent(random))?;
     let rest = Fraction::of(factor.exponent)?.plus(part.negated()).ok()?;

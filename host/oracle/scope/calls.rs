@@ -8,7 +8,7 @@ use wire::stream::{Answer, Request};
 use crate::Checked;
 use crate::arguments::{self, Arguments};
 use crate::canonical::{canonical, same};
-use crate::conversion::converted;
+use crate::conversion::{converted, converted_merged};
 use crate::domain::number;
 use crate::files;
 use crate::fractions::{Fraction, ZERO};
@@ -141,9 +141,10 @@ fn on_one(code: u32, a: &mut Arguments) -> Checked<Vec<u8>> {
             let base = base_exponents(&a.table.rows, &q.unit)?;
             fresh(q.value * scale(&a.table.rows, &q.unit)?, base_list(&a.table, &base))
         }
-        9 => {
+        9 | 27 => {
             let target = a.list()?;
-            fresh(converted(&a.table, q.value, &q.unit, &target)?, target)
+            let by_rule = if code == 9 { converted } else { converted_merged };
+            fresh(by_rule(&a.table, q.value, &q.unit, &target)?, target)
         }
         15 => fresh(-q.value, q.unit),
         16 => fresh(q.value.abs(), q.unit),

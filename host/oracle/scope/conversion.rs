@@ -1,4 +1,5 @@
-// Conversion of a value from one list to another ("Conversion, sums, comparison"; readings 10 to 13).
+// Conversion of a value from one list to another ("Conversion, sums, comparison"; readings 10 to 13), and the second
+// one beside it (02, "Order 3: cancel on both sides"; 02's readings 16 to 22).
 use wire::refusals::UNITS;
 
 use crate::Checked;
@@ -26,15 +27,31 @@ pub fn common(own: &[Part], target: &[Part]) -> Vec<Part> {
     own.iter().filter_map(beside).collect()
 }
 
-/// Both canonical forms, the own base exponents, the target over the common list, its base exponents: the first of these
-/// that leaves the range decides (reading 11; 02's reading 13).
+/// 01's: a factor common to both lists is taken out of the target but stays, twice, in the own scale.
 pub fn converted(table: &Table, value: f64, own: &[Part], target: &[Part]) -> Checked<f64> {
+    in_steps(table, value, own, target, Ok)
+}
+
+/// 02's order 3: the own list is merged too before its scale is taken; its base exponents are those of the merged list.
+pub fn converted_merged(table: &Table, value: f64, own: &[Part], target: &[Part]) -> Checked<f64> {
+    in_steps(table, value, own, target, |left| canonical(table, &left))
+}
+
+/// Both canonical forms, the own list over the common list made ready, its base exponents, the target over the common
+/// list, its base exponents: the first of these that leaves the range decides (reading 11; 02's readings 13 and 16).
+fn in_steps(
+    table: &Table,
+    value: f64,
+    own: &[Part],
+    target: &[Part],
+    ready: impl FnOnce(Vec<Part>) -> Checked<Vec<Part>>,
+) -> Checked<f64> {
     let (own_form, target_form) = (canonical(table, own)?, canonical(table, target)?);
     if own_form == target_form || value == 0.0 {
         return Ok(value);
     }
     let common = negated(&common(&own_form, &target_form));
-    let own_left = joined(own, &common);
+    let own_left = ready(joined(own, &common))?;
     let own_base = base_exponents(&table.rows, &own_left)?;
     let target_left = canonical(table, &joined(target, &common))?;
     if own_base != base_exponents(&table.rows, &target_left)? {

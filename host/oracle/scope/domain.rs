@@ -5,7 +5,7 @@ use wire::stream::Request;
 use crate::calls::given;
 use crate::{arguments, lists};
 use wire::bytes;
-use wire::calls::{FILES, Kind, of_code};
+use wire::calls::{ADDED, Kind, of_code};
 
 /// NONWHOLE for a fraction, which 01 adds; for a NaN and the infinities the Rust refuses too.
 pub const NONWHOLE_FRACTION: u32 = 0x100 + NONWHOLE;
@@ -20,7 +20,7 @@ pub fn number(refusal: u32) -> u32 {
 
 /// The number that says why a request lies outside, or None if the Rust is to answer it.
 pub fn outside(request: &Request) -> Option<u32> {
-    if FILES.contains(&request.code) {
+    if ADDED.contains(&request.code) {
         return Some(OUTSIDE);
     }
     match given(request) {

@@ -101,17 +101,17 @@ fn call(code: u32, mut a: Arguments) -> Checked<Walked> {
         4 => Err("power: a product"),
         5 => Err("canonical form: merging"),
         7 | 8 => Err("reduction: base exponents"),
-        9 => {
+        9 | 27 => {
             let (own, target) = (a.quantity()?, a.list()?);
-            conversion(&a.table, &own.unit, &target)
+            conversion(&a.table, &own.unit, &target, code == 27)
         }
         14 => {
             let (_, exponent) = (a.quantity()?, a.quantity()?);
-            conversion(&a.table, &exponent.unit, &[])
+            conversion(&a.table, &exponent.unit, &[], false)
         }
         17 | 18 => {
             let (first, second) = (a.quantity()?, a.quantity()?);
-            conversion(&a.table, &second.unit, &first.unit)
+            conversion(&a.table, &second.unit, &first.unit, false)
         }
         20 => {
             let (first, second) = (a.list()?, a.list()?);
@@ -126,11 +126,15 @@ fn call(code: u32, mut a: Arguments) -> Checked<Walked> {
 }
 
 /// Of a value that isn't zero; a zero is refused in the first two steps alone.
-fn conversion(table: &Table, own: &[Part], target: &[Part]) -> Walked {
+fn conversion(table: &Table, own: &[Part], target: &[Part], merged: bool) -> Walked {
     let own_form = canonical(table, own).or(Err("conversion: own canonical form"))?;
     let target_form = canonical(table, target).or(Err("conversion: target's canonical form"))?;
     let common = negated(&common(&own_form, &target_form));
-    base_exponents(&table.rows, &joined(own, &common)).or(Err("conversion: own base exponents"))?;
+    let mut own_left = joined(own, &common);
+    if merged {
+        own_left = canonical(table, &own_left).or(Err("conversion: own over the common list"))?;
+    }
+    base_exponents(&table.rows, &own_left).or(Err("conversion: own base exponents"))?;
     let left = canonical(table, &joined(target, &common)).or(Err("conversion: target over the common list"))?;
     base_exponents(&table.rows, &left).or(Err("conversion: the target's base exponents"))?;
     Ok(())

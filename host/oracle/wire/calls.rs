@@ -35,7 +35,7 @@ const fn call(name: &'static str, arguments: &'static [Kind], answer: Kind) -> C
 }
 
 /// Code 1 is the first entry.
-const CALLS: [Call; 26] = [
+const CALLS: [Call; 27] = [
     call("prefix_factor", &[Prefix], Value),
     call("product", &[Table, List, List], List),
     call("quotient", &[Table, List, List], List),
@@ -62,11 +62,17 @@ const CALLS: [Call; 26] = [
     call("write_table", &[Table, Lent], Written),
     call("read_table", &[File, Lent], Read),
     call("salvage_table", &[File, Lent], Salvaged),
+    call("convert_merged", &[Table, Quantity, List], Quantity),
 ];
 
-pub const CODES: std::ops::RangeInclusive<u32> = 1..=26;
-/// The calls that write and read a table file; numbat has none like them.
+pub const CODES: std::ops::RangeInclusive<u32> = 1..=27;
+/// 02's calls; numbat has none like them.
+pub const ADDED: std::ops::RangeInclusive<u32> = 24..=27;
+/// Those that write and read a table file.
 pub const FILES: std::ops::RangeInclusive<u32> = 24..=26;
+/// 01's conversion, and that of 02's order 3: they take the same arguments.
+pub const CONVERT_TO: u32 = 9;
+pub const CONVERT_MERGED: u32 = 27;
 
 pub fn of_code(code: u32) -> Option<&'static Call> {
     CALLS.get((code as usize).wrapping_sub(1))

@@ -1,6 +1,6 @@
 -- `arity` meets its contract: a kind that has no call of this code leaves it to the next.
 use borrow.Author.Needs.{needs}
-use Rattle.stream.proofs.Codes.{of-lists, of-values, of-simplify, of-files}
+use Rattle.stream.proofs.Codes.{of-lists, of-values, of-simplify, of-added}
 use Rattle.stream.proofs.arity.Statement.{statement}
 use Rattle.stream.proofs.arity.Tie as tie
 
@@ -34,7 +34,7 @@ arity-requires-4 c κs = search needs
 returns-4 : tie.Need-returns-4
 returns-4 c =
     let f = c .arity4 .ensures in
-    (rw (of-files _ _ (c .before .before .before .before .before .before .arity .ensures .0) (c .before .before .before .before .before .if1 .left) _ (c .before .before .before .before .arity2 .ensures .0) (c .before .before .before .if2 .left) _ (c .before .before .arity3 .ensures .0) (c .before .if3 .left)) (f .0), f .1)
+    (rw (of-added _ _ (c .before .before .before .before .before .before .arity .ensures .0) (c .before .before .before .before .before .if1 .left) _ (c .before .before .before .before .arity2 .ensures .0) (c .before .before .before .if2 .left) _ (c .before .before .arity3 .ensures .0) (c .before .if3 .left)) (f .0), f .1)
 
 pub arity-spec : {M : Type 1} → statement M
 arity-spec =

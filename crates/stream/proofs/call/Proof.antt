@@ -1,6 +1,6 @@
 -- `call` meets its contract: a kind that has no call of this code leaves it to the next.
 use borrow.Author.Needs.{needs}
-use Rattle.stream.proofs.Codes.{of-lists, of-values, of-simplify, of-files}
+use Rattle.stream.proofs.Codes.{of-lists, of-values, of-simplify, of-added}
 use Rattle.stream.proofs.call.Statement.{statement}
 use Rattle.stream.proofs.call.Tie as tie
 
@@ -60,7 +60,7 @@ returns-4 c =
     let h = c .before .before .before .before in
     let k = h .before .before in
     let j = k .before .before in
-    rw (of-files _ _ (j .before .arity .ensures .0) (j .if1 .left) _ (k .before .arity2 .ensures .0) (k .if2 .left) _ (h .before .arity3 .ensures .0) (h .if3 .left)) (c .before .before .call4 .ensures)
+    rw (of-added _ _ (j .before .arity .ensures .0) (j .if1 .left) _ (k .before .arity2 .ensures .0) (k .if2 .left) _ (h .before .arity3 .ensures .0) (h .if3 .left)) (c .before .before .call4 .ensures)
 
 pub call-spec : {M : Type 1} → statement M
 call-spec =

@@ -1,10 +1,11 @@
-// The wrapper's tests, each over the archive: the bench list, table files, the halves of fractions, the limits, the
-// refusals, the bytes.
+// The wrapper's tests, each over the archive: the bench list, table files, the halves of fractions, the conversion that
+// cancels on both sides, the limits, the refusals, the bytes.
 mod bench;
 mod files;
 mod halves;
 mod layout;
 mod limits;
+mod merged;
 mod refusals;
 
 use crate::{Exponent, Factor, List, Prefix, Quantity, Row, Table};

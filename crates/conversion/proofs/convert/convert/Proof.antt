@@ -1,109 +1,13 @@
 -- `convert` meets its contract.
-use mathlib.Core.Bool.{_||_}
 use borrow.Author.Needs.{needs}
-use mathlib.Core.Path.{sym, _∙_, ap₂}
-use mathlib.Core.List.{map}
-use Rattle.units.specs.Lists.{inverted}
-use Rattle.tables.specs.Held.{rulesBy}
-use Rattle.canonical.specs.Canonical.{canon}
-use Rattle.canonical.proofs.Seen.{len-items}
-use Rattle.canonical.proofs.Judged.{canon-formed, unformed}
-use Rattle.common.specs.Common.{common}
-use Rattle.common.proofs.Resolved.{over-resolved, over-merged}
-use Rattle.conversion.proofs.Converting.{form-stops, target-form-stops, keeps-value, goes-on, none-common}
 use Rattle.conversion.proofs.convert.convert.Statement.{statement}
 use Rattle.conversion.proofs.convert.convert.Tie as tie
 
-canonical-requires : tie.Need-canonical-requires
-canonical-requires c κs = search needs
+by-rule-requires : tie.Need-by-rule-requires
+by-rule-requires c κs = search needs
 
 returns : tie.Need-returns
-returns c v fs gs lends rl rm =
-    let x = c .before .before in
-    form-stops (rulesBy v (x .before .before .args .n)) fs gs (x .before .before .args .x) _ (unformed v (canon (v .order) fs) (x .canonical .result) (x .canonical .ensures v fs rl) (c .if1 .taken))
-
-canonical-requires-2 : tie.Need-canonical-requires-2
-canonical-requires-2 c κs = search needs
-
-returns-2 : tie.Need-returns-2
-returns-2 c v fs gs lends rl rm =
-    let y = c .before .before in
-    let x = y .before .before .before in
-    let a = canon-formed v _ fs (x .canonical .result) rl (x .canonical .ensures v fs rl) (y .before .if1 .left) in
-    target-form-stops (rulesBy v (x .before .before .args .n)) fs gs (x .before .before .args .x) (a .answer) (a .is) _ (unformed v (canon (v .order) gs) (y .canonical2 .result) (y .canonical2 .ensures v gs rm) (c .if2 .taken))
-
-is-zero-requires : tie.Need-is-zero-requires
-is-zero-requires c κs = search needs
-
-same-requires : tie.Need-same-requires
-same-requires c κs = search needs
-
-returns-3 : tie.Need-returns-3
-returns-3 c v fs gs lends rl rm =
-    let s = c .before in
-    let d = s .before .before .before .before in
-    let y = d .before .before in
-    let x = y .before .before .before in
-    let a = canon-formed v _ fs (x .canonical .result) rl (x .canonical .ensures v fs rl) (y .before .if1 .left) in
-    let b = canon-formed v _ gs (y .canonical2 .result) rm (y .canonical2 .ensures v gs rm) (d .if2 .left) in
-    keeps-value (rulesBy v (x .before .before .args .n)) fs gs (x .before .before .args .x) (a .answer) (a .is) (b .answer) (b .is)
-    (ap₂ _||_ (sym (s .before .is-zero .ensures)) (sym (s .same .ensures v (a .answer) (b .answer) (a .list) (b .list))) ∙ c .if3 .taken)
-
-over-common-requires : tie.Need-over-common-requires
-over-common-requires c κs = search needs
-
-apart-requires : tie.Need-apart-requires
-apart-requires c κs = search needs
-
-returns-4 : tie.Need-returns-4
-returns-4 c v fs gs lends rl rm =
-    let o = c .before .before .before in
-    let s = o .before .before in
-    let d = s .before .before .before .before in
-    let y = d .before .before in
-    let x = y .before .before .before in
-    let R = rulesBy v (x .before .before .args .n) in
-    let a = canon-formed v _ fs (x .canonical .result) rl (x .canonical .ensures v fs rl) (y .before .if1 .left) in
-    let b = canon-formed v _ gs (y .canonical2 .result) rm (y .canonical2 .ensures v gs rm) (d .if2 .left) in
-    let cs = map inverted (common (v .order) (a .answer) (b .answer)) in
-    let r = o .over-common .ensures v (a .answer) (b .answer) (a .list) (b .list) in
-    c .apart .ensures v fs (b .answer) lends rl (b .list)
-    ∙ none-common R fs (b .answer) (x .before .before .args .x) cs (sym (len-items v cs _ r) ∙ c .before .if4 .taken)
-    ∙ goes-on R fs gs (x .before .before .args .x) (a .answer) (a .is) (b .answer) (b .is) (over-merged v fs gs rl rm (a .answer) (b .answer) (a .is) (b .is))
-    (ap₂ _||_ (sym (s .before .is-zero .ensures)) (sym (s .same .ensures v (a .answer) (b .answer) (a .list) (b .list))) ∙ o .before .if3 .left)
-
-unlike-requires : tie.Need-unlike-requires
-unlike-requires c κs = search needs
-
-returns-5 : tie.Need-returns-5
-returns-5 c v fs gs lends rl rm =
-    let o = c .before .before .before in
-    let s = o .before .before in
-    let d = s .before .before .before .before in
-    let y = d .before .before in
-    let x = y .before .before .before in
-    let R = rulesBy v (x .before .before .args .n) in
-    let a = canon-formed v _ fs (x .canonical .result) rl (x .canonical .ensures v fs rl) (y .before .if1 .left) in
-    let b = canon-formed v _ gs (y .canonical2 .result) rm (y .canonical2 .ensures v gs rm) (d .if2 .left) in
-    let cs = map inverted (common (v .order) (a .answer) (b .answer)) in
-    let r = over-resolved v (a .answer) (b .answer) (a .list) (b .list) _ (o .over-common .ensures v (a .answer) (b .answer) (a .list) (b .list)) in
-    c .unlike .ensures v fs (b .answer) cs lends rl (b .list) r
-    ∙ goes-on R fs gs (x .before .before .args .x) (a .answer) (a .is) (b .answer) (b .is) (over-merged v fs gs rl rm (a .answer) (b .answer) (a .is) (b .is))
-    (ap₂ _||_ (sym (s .before .is-zero .ensures)) (sym (s .same .ensures v (a .answer) (b .answer) (a .list) (b .list))) ∙ o .before .if3 .left)
+returns c = c .by-rule .ensures
 
 pub convert-spec : {M : Type 1} → statement M
-convert-spec =
-    tie.close
-    (tie.spec
-    canonical-requires
-    returns
-    canonical-requires-2
-    returns-2
-    is-zero-requires
-    same-requires
-    returns-3
-    over-common-requires
-    apart-requires
-    returns-4
-    unlike-requires
-    returns-5)
+convert-spec = tie.close (tie.spec by-rule-requires returns)

@@ -1,12 +1,14 @@
--- By their codes (the byte form of 02's order 1, "Calls"), the calls on table files: one line for each. Room and places are numbers of four bytes.
+-- By their codes (the byte form of 02, "Calls"), the calls that 02 adds: one line for each. Room and places of a table file are numbers of four bytes.
 use mathlib.Core.List.{List, [], _∷_}
-use Rattle.codes.specs.Codes.{Call, two}
+use Rattle.codes.specs.Codes.{Call, two, three}
 use Rattle.wiretables.specs.Arguments.{wordFrom}
 use Rattle.askfiles.specs.Calls as files
+use Rattle.askconversions.specs.Calls as conversions
 
 unfoldable pub calls : List Call
 calls =
     two 24 (λ table room. files.writeTable table (wordFrom room))
     ∷ two 25 (λ file places. files.readTable file (wordFrom places))
     ∷ two 26 (λ file places. files.salvageTable file (wordFrom places))
+    ∷ three 27 conversions.convertMerged
     ∷ []

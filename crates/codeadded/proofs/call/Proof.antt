@@ -1,10 +1,10 @@
--- `call` meets its contract: each arm by its callee's, at the arm's own code and at the number that the second argument reads as.
+-- `call` meets its contract: each arm by its callee's, at the arm's own code and, on table files, at the number that the second argument reads as.
 use borrow.Author.Needs.{needs}
 use Rattle.codes.specs.Codes.{look}
 use Rattle.codes.proofs.Codes.{replied-none}
-use Rattle.codefiles.specs.Calls.{calls}
-use Rattle.codefiles.proofs.call.Statement.{statement}
-use Rattle.codefiles.proofs.call.Tie as tie
+use Rattle.codeadded.specs.Calls.{calls}
+use Rattle.codeadded.proofs.call.Statement.{statement}
+use Rattle.codeadded.proofs.call.Tie as tie
 
 word-requires : tie.Need-word-requires
 word-requires c κs = search needs
@@ -33,6 +33,9 @@ cast-salvage-table c = search needs
 salvage-table-requires : tie.Need-salvage-table-requires
 salvage-table-requires c κs = search needs
 
+convert-merged-requires : tie.Need-convert-merged-requires
+convert-merged-requires c κs = search needs
+
 refused-requires : tie.Need-refused-requires
 refused-requires c κs = search needs
 
@@ -57,9 +60,16 @@ returns-3 : tie.Need-returns-3
 unfolding look calls
 returns-3 c = rw (c .before .before .before .before .before .match .keys3, ← c .before .before .before .before .word3 .ensures) (c .before .before .salvage-table .ensures)
 
+same-length-4 : tie.Need-same-length-4
+same-length-4 c = search needs
+
 returns-4 : tie.Need-returns-4
+unfolding look calls
+returns-4 c = rw (c .before .before .before .before .match .keys4) (c .before .before .convert-merged .ensures)
+
+returns-5 : tie.Need-returns-5
 unfolding calls
-returns-4 c = replied-none calls _ _ _ _ _ _ (c .before .match .rest) (c .refused .ensures .0) (c .refused .ensures .1)
+returns-5 c = replied-none calls _ _ _ _ _ _ (c .before .match .rest) (c .refused .ensures .0) (c .refused .ensures .1)
 
 pub call-spec : {M : Type 1} → statement M
 call-spec =
@@ -74,6 +84,7 @@ call-spec =
     word-requires-3
     cast-salvage-table
     salvage-table-requires
+    convert-merged-requires
     refused-requires
     same-length
     returns
@@ -81,4 +92,6 @@ call-spec =
     returns-2
     same-length-3
     returns-3
-    returns-4)
+    same-length-4
+    returns-4
+    returns-5)

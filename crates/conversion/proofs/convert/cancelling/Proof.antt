@@ -1,0 +1,13 @@
+-- `cancelling` meets its contract.
+use borrow.Author.Needs.{needs}
+use Rattle.conversion.proofs.convert.cancelling.Statement.{statement}
+use Rattle.conversion.proofs.convert.cancelling.Tie as tie
+
+by-rule-requires : tie.Need-by-rule-requires
+by-rule-requires c κs = search needs
+
+returns : tie.Need-returns
+returns c = c .by-rule .ensures
+
+pub cancelling-spec : {M : Type 1} → statement M
+cancelling-spec = tie.close (tie.spec by-rule-requires returns)

@@ -1,0 +1,78 @@
+-- `lessening` meets its contract.
+use borrow.Author.Needs.{needs}
+use mathlib.Core.Path.{sym, _∙_, ap}
+use Rattle.exponents.proofs.Holds.{bind-given}
+use Rattle.tables.specs.Lists.{base}
+use Rattle.tables.specs.Held.{rulesBy}
+use Rattle.canonical.proofs.Judged.{formed, unformed}
+use Rattle.reduction.proofs.Handed.{exps-given, exps-refused}
+use Rattle.common.specs.Held.{lessen}
+use Rattle.common.proofs.Resolved.{lessen-resolved}
+use Rattle.conversion.specs.Conversion.{against}
+use Rattle.conversion.specs.Held.{convertedOf}
+use Rattle.conversion.proofs.Converting.{stops, own-range, target-stops}
+use Rattle.conversion.proofs.convert.lessening.Statement.{statement}
+use Rattle.conversion.proofs.convert.lessening.Tie as tie
+
+lessened-requires : tie.Need-lessened-requires
+lessened-requires c κs = search needs
+
+returns : tie.Need-returns
+returns c v fs gs cs lends rl rm rc =
+    let x = c .before .before in
+    stops _ _ (unformed v (lessen (v .order) fs cs) (x .lessened .result) (x .lessened .ensures v fs cs rl rc) (c .if1 .taken))
+
+lessened-requires-2 : tie.Need-lessened-requires-2
+lessened-requires-2 c κs = search needs
+
+base-of-requires : tie.Need-base-of-requires
+base-of-requires c κs = search needs
+
+returns-2 : tie.Need-returns-2
+returns-2 c v fs gs cs lends rl rm rc =
+    let y = c .before .before in
+    let z = y .before .before .before in
+    let x = z .before .before .before .before in
+    let R = rulesBy v (x .before .before .args .n) in
+    let o = formed v (lessen (v .order) fs cs) (x .lessened .result) (lessen-resolved v fs cs rl rc) (x .lessened .ensures v fs cs rl rc) (z .before .before .if1 .left) in
+    own-range R (o .answer) (lessen (v .order) gs cs) (x .before .before .args .x) _ (exps-refused (base (R .bases) (o .answer)) (y .base-of .result) (y .base-of .ensures v (o .answer) lends (o .list)) (c .if3 .taken))
+    ∙ sym (ap convertedOf (bind-given _ (o .is)))
+
+returns-3 : tie.Need-returns-3
+returns-3 c v fs gs cs lends rl rm rc =
+    let y = c .before .before in
+    let z = y .before .before .before in
+    let x = z .before .before .before .before in
+    let R = rulesBy v (x .before .before .args .n) in
+    let o = formed v (lessen (v .order) fs cs) (x .lessened .result) (lessen-resolved v fs cs rl rc) (x .lessened .ensures v fs cs rl rc) (z .before .before .if1 .left) in
+    let a = exps-given (base (R .bases) (o .answer)) (y .base-of .result) (y .base-of .ensures v (o .answer) lends (o .list)) (c .if3 .left) in
+    target-stops R (o .answer) (lessen (v .order) gs cs) (x .before .before .args .x) (a .exps) (a .is) _
+    (unformed v (lessen (v .order) gs cs) (z .lessened2 .result) (z .lessened2 .ensures v gs cs rm rc) (y .before .if2 .taken))
+    ∙ sym (ap convertedOf (bind-given _ (o .is)))
+
+apart-requires : tie.Need-apart-requires
+apart-requires c κs = search needs
+
+returns-4 : tie.Need-returns-4
+returns-4 c v fs gs cs lends rl rm rc =
+    let z = c .before .before .before .before in
+    let x = z .before .before .before .before in
+    let R = rulesBy v (x .before .before .args .n) in
+    let o = formed v (lessen (v .order) fs cs) (x .lessened .result) (lessen-resolved v fs cs rl rc) (x .lessened .ensures v fs cs rl rc) (z .before .before .if1 .left) in
+    let t = formed v (lessen (v .order) gs cs) (z .lessened2 .result) (lessen-resolved v gs cs rm rc) (z .lessened2 .ensures v gs cs rm rc) (c .before .before .if2 .left) in
+    c .apart .ensures v (o .answer) (t .answer) lends (o .list) (t .list)
+    ∙ ap (λ target. convertedOf (against R (o .answer) target (x .before .before .args .x))) (sym (t .is))
+    ∙ sym (ap convertedOf (bind-given _ (o .is)))
+
+pub lessening-spec : {M : Type 1} → statement M
+lessening-spec =
+    tie.close
+    (tie.spec
+    lessened-requires
+    returns
+    lessened-requires-2
+    base-of-requires
+    returns-2
+    returns-3
+    apart-requires
+    returns-4)

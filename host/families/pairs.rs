@@ -1,0 +1,236 @@
+// Units of one kind in pairs, as they are met in a shop's drawings, orders and sheets. Each pair is converted both ways.
+
+pub struct Family {
+    pub name: &'static str,
+    pairs: &'static [&'static str],
+}
+
+impl Family {
+    pub fn pairs(&self) -> impl Iterator<Item = (&'static str, &'static str)> {
+        self.pairs.iter().map(|pair| pair.split_once(" - ").expect("two units"))
+    }
+}
+
+pub const FAMILIES: [Family; 14] = [
+    Family {
+        name: "lengths",
+        pairs: &[
+            "inch - millimetre",
+            "inch - centimetre",
+            "inch - metre",
+            "foot - metre",
+            "foot - millimetre",
+            "foot - inch",
+            "mil - micrometre",
+            "mil - millimetre",
+            "mil - inch",
+            "mile - kilometre",
+        ],
+    },
+    Family {
+        name: "areas",
+        pairs: &[
+            "inch^2 - millimetre^2",
+            "inch^2 - centimetre^2",
+            "inch^2 - metre^2",
+            "foot^2 - metre^2",
+            "foot^2 - inch^2",
+            "foot·inch - metre^2",
+            "foot·inch - inch^2",
+            "foot·inch - foot^2",
+        ],
+    },
+    Family {
+        name: "volumes",
+        pairs: &[
+            "inch^3 - centimetre^3",
+            "inch^3 - litre",
+            "foot^3 - litre",
+            "foot^3 - metre^3",
+            "gallon - litre",
+            "gallon - inch^3",
+            "litre - metre^3",
+            "foot^2·inch - metre^3",
+            "foot^2·inch - foot^3",
+        ],
+    },
+    Family {
+        name: "angles",
+        pairs: &[
+            "degree - radian",
+            "degree - milliradian",
+            "arcminute - degree",
+            "arcminute - radian",
+            "arcminute - milliradian",
+            "turn - degree",
+            "turn - arcminute",
+            "turn - radian",
+        ],
+    },
+    Family {
+        name: "twist along the span",
+        pairs: &[
+            "degree/inch - degree/millimetre",
+            "degree/inch - degree/centimetre",
+            "degree/foot - degree/metre",
+            "degree/foot - degree/inch",
+            "degree/inch - radian/inch",
+            "degree/inch - radian/metre",
+            "radian/inch - radian/metre",
+            "arcminute/inch - degree/inch",
+            "arcminute/foot - arcminute/metre",
+            "arcminute/millimetre - degree/metre",
+        ],
+    },
+    Family {
+        name: "speeds",
+        pairs: &[
+            "kilometre/hour - mile/hour",
+            "kilometre/hour - metre/second",
+            "mile/hour - foot/second",
+            "millimetre/minute - inch/minute",
+            "metre/minute - inch/minute",
+            "foot/minute - metre/minute",
+            "foot/minute - inch/minute",
+            "kilometre/minute - metre/minute",
+            "inch/minute - millimetre/second",
+            "inch/second - millimetre/second",
+        ],
+    },
+    Family {
+        name: "turning and feed",
+        pairs: &[
+            "turn/minute - radian/second",
+            "turn/minute - radian/minute",
+            "turn/minute - degree/second",
+            "turn/minute - turn/hour",
+            "turn/hour - degree/hour",
+            "inch/turn - millimetre/turn",
+            "inch/turn - mil/turn",
+            "mil/turn - micrometre/turn",
+            "millimetre/turn - micrometre/turn",
+            "inch/turn - millimetre/degree",
+        ],
+    },
+    Family {
+        name: "accelerations",
+        pairs: &[
+            "foot/second^2 - metre/second^2",
+            "inch/second^2 - millimetre/second^2",
+            "gravity - metre/second^2",
+            "gravity - foot/second^2",
+            "kilometre/hour/second - mile/hour/second",
+            "kilometre/hour/second - metre/second^2",
+            "mile/hour/second - foot/second^2",
+            "mile/hour/minute - kilometre/hour/minute",
+            "inch/minute^2 - millimetre/minute^2",
+            "foot/minute^2 - metre/minute^2",
+        ],
+    },
+    Family {
+        name: "pressure and stress",
+        pairs: &[
+            "psi - megapascal",
+            "psi - bar",
+            "ksi - megapascal",
+            "bar - megapascal",
+            "poundforce/inch^2 - newton/millimetre^2",
+            "poundforce/inch^2 - newton/inch^2",
+            "poundforce/inch^2 - kip/inch^2",
+            "poundforce/inch^2 - poundforce/foot^2",
+            "poundforce/foot^2 - newton/foot^2",
+            "newton/millimetre^2 - kilonewton/millimetre^2",
+        ],
+    },
+    Family {
+        name: "torque",
+        pairs: &[
+            "newton·metre - poundforce·foot",
+            "newton·metre - poundforce·inch",
+            "newton·metre - newton·millimetre",
+            "poundforce·foot - poundforce·inch",
+            "poundforce·inch - newton·inch",
+            "foot·poundforce - inch·poundforce",
+            "foot·poundforce - foot·newton",
+            "kip·inch - poundforce·inch",
+            "kip·foot - poundforce·foot",
+            "kip·foot - kilonewton·metre",
+        ],
+    },
+    Family {
+        name: "stress intensity, squared",
+        pairs: &[
+            "megapascal^2·metre - ksi^2·inch",
+            "megapascal^2·millimetre - psi^2·inch",
+            "megapascal^2·metre - megapascal^2·millimetre",
+            "megapascal^2·metre - kilopascal^2·metre",
+            "ksi^2·inch - psi^2·inch",
+            "ksi^2·inch - ksi^2·millimetre",
+            "ksi^2·inch - megapascal^2·inch",
+            "psi^2·inch - psi^2·foot",
+            "psi^2·inch - megapascal^2·inch",
+        ],
+    },
+    Family {
+        name: "density and mass flow",
+        pairs: &[
+            "kilogram/metre^3 - gram/centimetre^3",
+            "pound/foot^3 - kilogram/metre^3",
+            "pound/inch^3 - gram/centimetre^3",
+            "pound/inch^3 - gram/inch^3",
+            "pound/inch^3 - pound/foot^3",
+            "pound/hour - kilogram/hour",
+            "pound/hour - gram/hour",
+            "pound/hour - kilogram/second",
+            "pound/minute - kilogram/minute",
+            "pound/minute - pound/hour",
+        ],
+    },
+    Family {
+        name: "energy and heat",
+        pairs: &[
+            "btu/pound - kilojoule/kilogram",
+            "btu/pound - joule/pound",
+            "btu/pound/rankine - kilojoule/kilogram/kelvin",
+            "foot·poundforce/pound/rankine - joule/kilogram/kelvin",
+            "btu/hour - kilojoule/hour",
+            "btu/hour - watt",
+            "kilowatt·hour - watt·hour",
+            "btu/hour/foot^2 - watt/metre^2",
+            "btu/hour/foot^2/rankine - watt/metre^2/kelvin",
+            "btu·inch/hour/foot^2/rankine - btu/hour/foot/rankine",
+        ],
+    },
+    Family {
+        name: "spring rates",
+        pairs: &[
+            "newton/millimetre - poundforce/inch",
+            "newton/millimetre - newton/inch",
+            "newton/millimetre - kilonewton/millimetre",
+            "newton/millimetre - kilonewton/metre",
+            "poundforce/inch - newton/inch",
+            "poundforce/inch - poundforce/foot",
+            "kip/inch - poundforce/inch",
+            "kip/foot - poundforce/foot",
+            "kip/foot - kip/inch",
+            "kilonewton/metre - poundforce/foot",
+        ],
+    },
+];
+
+/// Roots of hours, minutes, inches and millimetres, whose scales aren't 1. All cancel but those of the last two pairs.
+pub const ROOTS: Family = Family {
+    name: "roots",
+    pairs: &[
+        "kilometre·hour^0.5 - metre·hour^0.5",
+        "kilometre/hour^0.5 - mile/hour^0.5",
+        "millimetre/minute^0.5 - inch/minute^0.5",
+        "degree/hour^0.5 - arcminute/hour^0.5",
+        "kilogram/metre^2/hour^0.5 - pound/foot^2/hour^0.5",
+        "ksi·inch^0.5 - psi·inch^0.5",
+        "ksi·inch^0.5 - megapascal·inch^0.5",
+        "newton/millimetre^1.5 - kilonewton/millimetre^1.5",
+        "ksi·inch^0.5 - megapascal·metre^0.5",
+        "megapascal·millimetre^0.5 - newton/millimetre^1.5",
+    ],
+};
