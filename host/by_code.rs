@@ -4,7 +4,7 @@ use demsharin::bytes::{
     VALUE_BYTES,
 };
 use demsharin::exports;
-use wire::bytes::lent;
+use wire::bytes::{DISTINCT, lent};
 use wire::calls::{self, Kind};
 use wire::stream::Request;
 
@@ -39,18 +39,22 @@ pub fn call(request: &Request, out: &mut [u8]) -> u32 {
         (25, [file, _]) => exports::read_table(file, out),
         (26, [file, _]) => exports::salvage_table(file, out),
         (27, [table, a, b]) => exports::convert_merged(table, a, b, out),
+        (28, [table, knots, rule]) => exports::knot_vector(table, knots, rule, out),
+        (29, [table, knots, rule]) => exports::span_quotient(table, knots, rule, out),
         (code, arguments) => panic!("no call {code} with {} arguments", arguments.len()),
     }
 }
 
 /// The bytes that hold the answer to a request. What a call on files is lent stands in the request; at most the longest
-/// file, or a row for each byte of a file, is lent, since more changes nothing.
+/// file, or a row for each byte of a file, is lent, since more changes nothing. A knot vector has at most as many values as
+/// knots.
 pub fn answer_bytes(request: &Request) -> usize {
     match calls::of_code(request.code).expect("a known code").answer {
         Kind::Written => HEAD_BYTES + (lent(&request.arguments[1]) as usize).min(FILE_BYTES),
         Kind::Read | Kind::Salvaged => {
             HEAD_BYTES + ROW_BYTES * (lent(&request.arguments[1]) as usize).min(request.arguments[0].len())
         }
+        Kind::Vector => HEAD_BYTES + DISTINCT * (request.arguments[1].len() / QUANTITY_BYTES).min(512),
         Kind::Value => VALUE_BYTES,
         Kind::YesNo | Kind::Order => NUMBER_BYTES,
         Kind::List => LIST_BYTES,

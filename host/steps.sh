@@ -61,8 +61,9 @@ unit() {
 example() {
     local name
     for name in knots exchange; do
-        rustc_x86 --crate-name $name --edition 2024 -O -D warnings "${wrapper[@]}" -o "$build/$name" "$here/examples/$name.rs"
-        run_x86 "$build/$name"
+        rustc_x86 --crate-name $name --edition 2024 -O -D warnings "${wrapper[@]}" -o "$build/example-$name" \
+            "$here/examples/$name.rs"
+        run_x86 "$build/example-$name"
     done
 }
 
@@ -127,23 +128,35 @@ files() {
     seeds files "$size" "$@"
 }
 
+# knots [--vectors N] [SEED ..]: N knot vectors for each seed
+knots() {
+    local size=26000
+    [ "${1:-}" != --vectors ] || { size=$2 && shift 2; }
+    oracle_crates on
+    program knots wire scope generator
+    seeds knots "$size" "$@"
+}
+
 # Conversions between units in use by both rules, held against exact fractions.
 families() {
     rustc_x86 --crate-name families --edition 2024 -O -D warnings "${wrapper[@]}" -o "$build/families" "$here/families/main.rs"
     run_x86 "$build/families" | python3 "$here/families/judge.py"
 }
 
-# speed [compare] [files] [merged] [growth] [stack] [--round MILLISECONDS]: the Rust as a release build has it, without checks for overflow
+# speed [compare] [files] [merged] [knots] [growth] [stack] [--round MILLISECONDS]: the Rust as a release build has it, without checks
+# for overflow
 speed() {
     oracle_crates off
     program speed wire scope published
     run_x86 "$build/speed" "$@"
 }
 
-# The picture of the fold. The program ends before anything is drawn, so a failure leaves the picture as it was.
+# The sections of the fold, the same in exact fractions, and their picture. The programs end before anything is drawn, so a
+# failure leaves the picture as it was.
 fold() {
     rustc_x86 --crate-name fold --edition 2024 -O -D warnings "${wrapper[@]}" -o "$build/fold" "$here/examples/fold.rs"
     run_x86 "$build/fold" >"$build/fold.txt"
-    cat "$build/fold.txt"
+    grep -v '^curve' "$build/fold.txt"
+    python3 "$root/docs/fold/exact.py" <"$build/fold.txt"
     python3 "$root/docs/fold/draw.py" <"$build/fold.txt"
 }

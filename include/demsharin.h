@@ -23,10 +23,16 @@
  *   Candidate   0 rank u16            2 reserved u16          4 List
  *   Multiple    0 found u32 (1 or 0)  4 Exponent (0/1 for none)
  *   Reduced     0 scale's bits u64    8 List
+ *   Rule        0 tolerance's bits u64 (in the unit below)    8 degree u32    12 List (the unit)
+ *   SpanRule    0 Rule                336 x's bits u64 (in that unit)         344 place of the left knot u32
+ *               348 reserved u32
+ *   Distinct    0 value's bits u64    8 multiplicity u32      12 reserved u32
+ *   Vector      0 number u32          4 reserved u32          8 Distinct, so many
  *
  * A value's bits are those of a binary64; any NaN counts as the one that answers have,
  * 0x7ff8000000000000. A table is a run of at most 128 Rows, at most 16 of them base; ranks differ, a
- * definition names lower rows only. Candidates are a run of at most 32, their ranks rising.
+ * definition names lower rows only. Candidates are a run of at most 32, their ranks rising. Knots are a run
+ * of 1 to 512 Quantities; a degree is 1 to 9, a tolerance finite and not below zero.
  *
  * A table file is what sites send each other: any bytes, which are read by these rules. A number is in
  * groups of seven bits, low group first, the high bit set on all but the last, in the shortest form
@@ -55,6 +61,9 @@
 #define DEMSHARIN_CANDIDATE_BYTES 328
 #define DEMSHARIN_MULTIPLE_BYTES 12
 #define DEMSHARIN_REDUCED_BYTES 332
+#define DEMSHARIN_RULE_BYTES 336
+#define DEMSHARIN_SPAN_RULE_BYTES 352
+#define DEMSHARIN_DISTINCT_BYTES 16
 #define DEMSHARIN_NUMBER_BYTES 4
 #define DEMSHARIN_VALUE_BYTES 8
 
@@ -62,36 +71,45 @@
 #define DEMSHARIN_FILE_BYTES 15890
 #define DEMSHARIN_WRITTEN_BYTES 15898
 #define DEMSHARIN_ROWS_BYTES 22536
-/* What stands before the file's bytes or the rows. */
+/* What holds every Vector. */
+#define DEMSHARIN_VECTOR_BYTES 8200
+/* What stands before the file's bytes, the rows or the distinct values. */
 #define DEMSHARIN_HEAD_BYTES 8
 
-/* How many there may be. */
+/* How many there may be, and the highest degree. */
 #define DEMSHARIN_LIST_FACTORS 16
 #define DEMSHARIN_DEFINITION_FACTORS 8
 #define DEMSHARIN_TABLE_ROWS 128
 #define DEMSHARIN_BASE_ROWS 16
 #define DEMSHARIN_CANDIDATES 32
+#define DEMSHARIN_KNOTS 512
+#define DEMSHARIN_DEGREE 9
 
 /* What a function returns: 0, or the first refusal in the order of the checks. The table is checked
- * first, row by row, then the arguments from left to right, then what the call itself may refuse. Of RANGE
- * and DENOMINATOR the first exponent that leaves its range decides, by its numerator if both halves do. */
+ * first, row by row, then the arguments from left to right, then what the call itself may refuse; only
+ * ARGUMENT about knots and their rule comes before the table. Of RANGE and DENOMINATOR the first exponent
+ * that leaves its range decides, by its numerator if both halves do. */
 enum demsharin_refusal {
     DEMSHARIN_ANSWERED = 0,
-    DEMSHARIN_TABLE = 1,       /* over 128 rows, a length that no run of rows has, or a row breaks its rules */
-    DEMSHARIN_SHAPE = 2,       /* an argument of the wrong length, a list too long, a prefix or an exponent
-                                  that breaks its rule, candidates too many or not rising */
-    DEMSHARIN_UNKNOWN = 3,     /* a list names a row that isn't there */
-    DEMSHARIN_ROOM = 4,        /* a product of over 16 factors; or, after every other refusal, too short a room */
-    DEMSHARIN_RANGE = 5,       /* an exponent's numerator leaves its range */
-    DEMSHARIN_UNITS = 6,       /* the units don't agree, and the value isn't zero */
-    DEMSHARIN_FRACTION = 7,    /* a scale other than 1 meets an exponent that isn't whole */
-    DEMSHARIN_DIVZERO = 8,     /* the divisor's value is zero */
-    DEMSHARIN_ZERONEG = 9,     /* zero to an exponent below zero */
-    DEMSHARIN_NONWHOLE = 10,   /* a power by a value that isn't whole */
-    DEMSHARIN_NAN = 11,        /* a comparison with a NaN, or a NaN after conversion */
-    DEMSHARIN_FORMAT = 12,     /* a file that breaks its rules, has a number above 4294967295, a rank above
-                                  65535 or a definition of over 8 factors, or has more rows than there is room */
-    DEMSHARIN_DENOMINATOR = 13 /* an exponent's denominator, or the common multiple of a row's, leaves its range */
+    DEMSHARIN_TABLE = 1,        /* over 128 rows, a length that no run of rows has, or a row breaks its rules */
+    DEMSHARIN_SHAPE = 2,        /* an argument of the wrong length, a list too long, a prefix or an exponent
+                                   that breaks its rule, candidates too many or not rising */
+    DEMSHARIN_UNKNOWN = 3,      /* a list names a row that isn't there */
+    DEMSHARIN_ROOM = 4,         /* a product of over 16 factors; or, after every other refusal, too short a room */
+    DEMSHARIN_RANGE = 5,        /* an exponent's numerator leaves its range */
+    DEMSHARIN_UNITS = 6,        /* the units don't agree, and the value isn't zero */
+    DEMSHARIN_FRACTION = 7,     /* a scale other than 1 meets an exponent that isn't whole */
+    DEMSHARIN_DIVZERO = 8,      /* the divisor's value is zero */
+    DEMSHARIN_ZERONEG = 9,      /* zero to an exponent below zero */
+    DEMSHARIN_NONWHOLE = 10,    /* a power by a value that isn't whole */
+    DEMSHARIN_NAN = 11,         /* a comparison with a NaN, or a NaN after conversion */
+    DEMSHARIN_FORMAT = 12,      /* a file that breaks its rules, has a number above 4294967295, a rank above
+                                   65535 or a definition of over 8 factors, or has more rows than there is room */
+    DEMSHARIN_DENOMINATOR = 13, /* an exponent's denominator, or the common multiple of a row's, leaves its range */
+    DEMSHARIN_ORDER = 14,       /* knots fall, or one is a NaN or infinite in the unit of the rule */
+    DEMSHARIN_MULTIPLE = 15,    /* a knot is there more often than the degree plus one */
+    DEMSHARIN_ARGUMENT = 16     /* a wrong number of knots, degree or tolerance, or a length that no knots or no
+                                   rule have; or, after ORDER and MULTIPLE, a place without a span behind it */
 };
 
 #ifdef __cplusplus
@@ -228,6 +246,21 @@ uint32_t demsharin_salvage_table(const uint8_t *file, size_t file_len, uint8_t *
 uint32_t demsharin_convert_merged(const uint8_t *table, size_t table_len, const uint8_t *quantity,
                                   size_t quantity_len, const uint8_t *target, size_t target_len, uint8_t *out,
                                   size_t out_len);
+
+/* Knots, Rule -> Vector: the knots in the unit of the rule, converted as by demsharin_convert_merged and merged
+ * in runs from the lowest on. Each next knot joins the run if it, less the run's first, is at most the
+ * tolerance, and begins the next run otherwise; the first's value stands for all, with their number as its
+ * multiplicity. DEMSHARIN_VECTOR_BYTES always suffice. ARGUMENT before everything, TABLE too; then what the
+ * lowest knot that isn't converted is refused for; ORDER, MULTIPLE. */
+uint32_t demsharin_knot_vector(const uint8_t *table, size_t table_len, const uint8_t *knots, size_t knots_len,
+                               const uint8_t *rule, size_t rule_len, uint8_t *out, size_t out_len);
+
+/* Knots, SpanRule -> value's bits: (x - left) / (right - left) for the span from the knot at the place, counted
+ * from 0, to the next, each at the value of its run; 0 if both are of one run, whatever x is. x may lie outside
+ * of the span. All refusals of demsharin_knot_vector, then ARGUMENT for a place without a span behind it. */
+uint32_t demsharin_span_quotient(const uint8_t *table, size_t table_len, const uint8_t *knots, size_t knots_len,
+                                 const uint8_t *span_rule, size_t span_rule_len, uint8_t *out,
+                                 size_t out_len);
 
 #ifdef __cplusplus
 }

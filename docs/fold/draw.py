@@ -1,135 +1,142 @@
 #!/usr/bin/env python3
 """The fold and its cure as a picture: reads what host/examples/fold.rs prints, writes docs/fold.svg. `host/test fold` runs both.
 
-A section is a cubic Hermite spline through its stations. The tangent at a knot is that of the parabola through the
-station and its two neighbours, so it divides by the spans on both sides. Floats here are binary64, and the curve isn't
-sampled: a Hermite span is one Bézier curve of SVG."""
+Curves and derivatives are drawn through the points that the example prints; nothing is worked out here."""
 import pathlib
 import struct
 import sys
 
-WIDTH, HEIGHT, PANEL, GAP = 900, 360, 440, 20
+WIDTH, HEIGHT, PANEL, GAP = 900, 500, 440, 20
 INK, FAINT, RIGHT, WRONG = "#24292f", "#6e7781", "#0969da", "#cf222e"
 OUT = pathlib.Path(__file__).resolve().parent.parent / "fold.svg"
 
 
-class Station:
+def bits(value):
+    return struct.unpack(">Q", struct.pack(">d", value))[0]
+
+
+class Site:
     def __init__(self, words):
-        self.bits = words[0]
-        self.knot, x, y = (struct.unpack(">d", bytes.fromhex(word))[0] for word in words[:3])
-        self.point = (x, y)
-        self.sent = " ".join(words[3:])
+        self.knot, *self.point = map(float, words[:3])
+        self.times = int(words[3])
+        self.sent = " ".join(words[4:])
 
 
-def stations(lines, by):
-    return [Station(line.split()[1:]) for line in lines if line.split()[:1] == [by]]
+class Section:
+    def __init__(self, lines, name):
+        own = [line.split() for line in lines if line.split()[1:2] == [name]]
+        self.sites = [Site(words[2:]) for words in own if words[0] == "site"]
+        self.control = [tuple(map(float, words[2:])) for words in own if words[0] == "control"]
+        self.curve = [tuple(map(float, words[2:])) for words in own if words[0] == "curve"]
 
-
-def secant(a, b):
-    span = b.knot - a.knot
-    return tuple((q - p) / span for p, q in zip(a.point, b.point))
-
-
-def tangents(section):
-    spans = [b.knot - a.knot for a, b in zip(section, section[1:])]
-    secants = [secant(a, b) for a, b in zip(section, section[1:])]
-    inner = [
-        tuple((right * d + left * e) / (left + right) for d, e in zip(before, after))
-        for left, right, before, after in zip(spans, spans[1:], secants, secants[1:])
-    ]
-    return [secants[0], *inner, secants[-1]]
+    def tangent(self, site):
+        return next(tangent for knot, _, _, *tangent in self.curve if knot == site.knot)
 
 
 class Panel:
-    """Metres onto a panel that has its own paper, for pages of any colour: one scale for both directions, y upwards."""
+    """Metres onto a panel that has its own paper, for pages of any colour: one scale for both directions, y upwards.
+    Below it the derivative over the knots."""
 
-    SCALE = 2450.0
+    SCALE, SLOPE, ZERO = 2450.0, 13.0, 350.0
 
     def __init__(self, left):
         self.left = left
         self.parts = [f'<rect x="{left + 0.5}" y="0.5" width="{PANEL - 1}" height="{HEIGHT - 1}" rx="6" fill="#ffffff" stroke="{FAINT}"/>']
 
     def at(self, x, y):
-        return f"{self.left + 45 + (x - 0.226) * self.SCALE:.2f},{220 - (y - 0.105) * self.SCALE:.2f}"
+        return f"{self.left + 45 + (x - 0.226) * self.SCALE:.2f},{236 - (y - 0.105) * self.SCALE:.2f}"
 
-    def curve(self, section, colour):
-        pieces = [f"M{self.at(*section[0].point)}"]
-        slopes = tangents(section)
-        for a, b, m, n in zip(section, section[1:], slopes, slopes[1:]):
-            third = (b.knot - a.knot) / 3
-            out = self.at(*(p + third * d for p, d in zip(a.point, m)))
-            into = self.at(*(p - third * d for p, d in zip(b.point, n)))
-            pieces.append(f"C{out} {into} {self.at(*b.point)}")
-        self.parts.append(f'<path d="{" ".join(pieces)}" fill="none" stroke="{colour}" stroke-width="3" stroke-linejoin="round"/>')
+    def over(self, knot, slope):
+        return f"{self.left + 55 + knot * 2200:.2f},{self.ZERO - slope * self.SLOPE:.2f}"
 
-    def dots(self, section, marked, colour):
-        for station in section:
-            x, y = self.at(*station.point).split(",")
-            radius, fill = (6, colour) if station in marked else (4, INK)
-            self.parts.append(f'<circle cx="{x}" cy="{y}" r="{radius}" fill="{fill}"/>')
+    def line(self, points, colour, width, more=""):
+        self.parts.append(f'<path d="M{" L".join(points)}" fill="none" stroke="{colour}" stroke-width="{width}" stroke-linejoin="round"{more}/>')
 
-    def text(self, y, words, colour=INK, size=14, weight="normal", x=20):
+    def dot(self, place, radius, colour):
+        x, y = place.split(",")
+        self.parts.append(f'<circle cx="{x}" cy="{y}" r="{radius}" fill="{colour}"/>')
+
+    def text(self, y, words, colour=INK, size=12, weight="normal", x=20):
         self.parts.append(f'<text x="{self.left + x}" y="{y}" fill="{colour}" font-size="{size}" font-weight="{weight}">{words}</text>')
 
-    def section(self, title, section, marked, colour):
-        self.text(32, title, colour, 17, "bold")
-        self.text(186, "sent in mm", FAINT, 12, x=75)
-        self.text(186, "sent in inches", FAINT, 12, x=245)
-        self.curve(section, colour)
-        self.dots(section, marked, colour)
+    def section(self, section, marked, colour):
+        self.line([self.at(*point) for point in section.control], FAINT, 1, ' stroke-dasharray="3 4"')
+        self.line([self.at(x, y) for _, x, y, _, _ in section.curve], colour, 3)
+        for site in section.sites:
+            self.dot(self.at(*site.point), *((6, colour) if site in marked else (4, INK)))
+        self.text(220, "sent in mm", FAINT, x=75)
+        self.text(220, "sent in inches", FAINT, x=255)
+
+    def derivative(self, section, marked, colour):
+        self.line([self.over(0, 0), self.over(section.curve[-1][0], 0)], FAINT, 1)
+        for axis, more in ((3, ""), (4, ' stroke-dasharray="6 3"')):
+            self.line([self.over(sample[0], sample[axis]) for sample in section.curve], colour, 2, more)
+            for site in marked:
+                self.dot(self.over(site.knot, section.tangent(site)[axis - 3]), 4, colour)
+        self.text(self.ZERO + 4, "0", FAINT, x=40)
+        self.text(258, "derivative of x, and dashed of y, over the knots", FAINT, x=55)
 
 
 def shown(tangent):
     return f"({tangent[0]:.2f}, {tangent[1]:.2f})".replace("-", "−")
 
 
-def value(station):
-    return f"{station.knot!r} m, bits …{station.bits[-5:]}"
+def metres(value):
+    return f"{value:.2e} m".replace("-", "−")
+
+
+def value(knot):
+    return f"{knot!r} m, bits …{bits(knot) & 0xFFFFF:05x}"
 
 
 def hand_panel(hand, at):
-    low, high = hand[at : at + 2]
+    low, high = hand.sites[at : at + 2]
     panel = Panel(0)
-    panel.section("By hand: two knots, a last place apart", hand, (low, high), WRONG)
-    for y, station in ((264, low), (286, high)):
-        panel.text(y, f"{station.sent.replace('*', '×')} = {value(station)}", size=12)
-    panel.text(312, f"span {high.knot - low.knot:.2e} m".replace("-", "−"), size=12)
-    panel.text(338, f"tangent {shown(tangents(hand)[at])}: rounding alone, and backwards", WRONG)
+    panel.text(32, "By hand: two knots, a last place apart", WRONG, 17, "bold")
+    panel.section(hand, (low, high), WRONG)
+    panel.derivative(hand, (low, high), WRONG)
+    for y, site in ((416, low), (436, high)):
+        panel.text(y, f"{site.sent.replace('*', '×')} = {value(site.knot)}")
+    panel.text(456, f"span {metres(high.knot - low.knot)}, with a point at each end")
+    panel.text(480, f"tangent {shown(hand.tangent(low))}: rounding alone, and backwards", WRONG, 14)
     return panel
 
 
-def library_panel(library, at):
-    one = library[at]
+def merged_panel(merged, at, tolerance, exact):
+    one = merged.sites[at]
     panel = Panel(PANEL + GAP)
-    panel.section("By the library: one knot", library, (one,), RIGHT)
-    for y, sent in zip((264, 286), one.sent.split(", ")):
-        panel.text(y, f"{sent} → {value(one)}", size=12)
-    panel.text(312, "over a table in tenths of a mm: equal to the last bit, so made one", size=12)
-    panel.text(338, f"tangent {shown(tangents(library)[at])}", RIGHT)
+    panel.text(32, "The library's knot vector: one knot, twice", RIGHT, 17, "bold")
+    panel.section(merged, (one,), RIGHT)
+    panel.derivative(merged, (one,), RIGHT)
+    panel.text(416, f"{one.sent.replace(', ', ' and ')} → {value(one.knot)}, × {one.times}")
+    panel.text(436, f"within {metres(tolerance)}, a last place, with an inch of 0.0254 m;")
+    panel.text(456, f"over tenths of a mm → {value(exact)}, × 2, within 0")
+    panel.text(480, f"tangent {shown(merged.tangent(one))}", RIGHT, 14)
     return panel
 
 
-def folds(hand, library):
+def folds(hand, merged):
     """Where one knot is two by hand and one by the library, and the tangent by hand turned round."""
     return [
         at
-        for at, (a, b) in enumerate(zip(hand, hand[1:]))
-        if int(b.bits, 16) - int(a.bits, 16) == 1
-        and ", " in library[at].sent
-        and sum(m * n for m, n in zip(tangents(hand)[at], tangents(library)[at])) < 0
+        for at, (a, b) in enumerate(zip(hand.sites, hand.sites[1:]))
+        if bits(b.knot) - bits(a.knot) == 1
+        and merged.sites[at].times == 2
+        and sum(m * n for m, n in zip(hand.tangent(a), merged.tangent(merged.sites[at]))) < 0
     ]
 
 
 def main():
     lines = sys.stdin.read().splitlines()
-    hand, library = stations(lines, "hand"), stations(lines, "library")
-    found = folds(hand, library) if len(library) == len(hand) - 1 else []
+    hand, merged = Section(lines, "hand"), Section(lines, "merged")
+    tolerance, exact = (float(line.split()[1]) for word in ("tolerance", "exact") for line in lines if line.startswith(word))
+    found = folds(hand, merged) if len(merged.sites) == len(hand.sites) - 1 else []
     if len(found) != 1:
         sys.exit("no picture: it needs one knot that is two by hand and one by the library, and a tangent turned round")
-    panels = hand_panel(hand, found[0]), library_panel(library, found[0])
+    panels = hand_panel(hand, found[0]), merged_panel(merged, found[0], tolerance, exact)
     OUT.write_text(
         f'<svg xmlns="http://www.w3.org/2000/svg" viewBox="0 0 {WIDTH} {HEIGHT}" width="{WIDTH}" height="{HEIGHT}" font-family="sans-serif">\n'
-        "<title>A blade section through one knot that arrived twice: folded with two knots a last place apart, smooth with one</title>\n"
+        "<title>A cubic B-spline through one knot that arrived twice: folded over two knots a last place apart, smooth over one knot of multiplicity 2</title>\n"
         + "".join(f"{part}\n" for panel in panels for part in panel.parts)
         + "</svg>\n"
     )

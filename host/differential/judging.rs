@@ -123,7 +123,9 @@ impl Judge {
         }
         let (room, number) = match FILES.contains(&request.code) {
             true => (self.random.below(HEAD_BYTES), scope::calls::answer(&with_nothing_lent(request)).number),
-            false => (self.random.below(answer_bytes(request)), reading.number),
+            // Knots that merge need less room than all of them.
+            false if reading.number == 0 => (self.random.below(reading.bytes.len()), 0),
+            false => (self.random.below(answer_bytes(request).max(1)), reading.number),
         };
         let wanted = if number == 0 { ROOM } else { number };
         let fits = answered(request, room) == (wanted, vec![PAINT; room]);

@@ -1,11 +1,11 @@
-/* Ten inches in metres from C: records put together byte by byte, one call, and refusals. */
+/* Ten inches in metres and a knot vector from C: records put together byte by byte, calls, and refusals. */
 #include "demsharin.h"
 
 #include <inttypes.h>
 #include <stdio.h>
 #include <string.h>
 
-enum { METRE = 0, INCH = 1, ROWS = 2 };
+enum { METRE = 0, INCH = 1, ROWS = 2, KNOTS = 4 };
 
 static void put(uint8_t *place, uint64_t number, int bytes) {
     for (int at = 0; at < bytes; at++) place[at] = (uint8_t)(number >> (8 * at));
@@ -66,6 +66,49 @@ static uint32_t merged(const uint8_t *table, size_t table_len, uint32_t a, uint3
     return demsharin_canonical(table, table_len, list, sizeof list, answer, sizeof answer);
 }
 
+/* A knot as a supplier sends it; n is the power of ten before the unit. */
+static void put_knot(uint8_t *place, double value, uint32_t row, int32_t n) {
+    put(place, bits_of(value), 8);
+    put(place + 8, 1, 4);
+    put_list(place + 12, row);
+    put(place + 12 + 4 + 8, (uint32_t)n, 4);
+}
+
+/* Knots in inches and millimetres as a knot vector in metres, then x in the span behind the knot at a place.
+ * Returns the refusal; sets the number of distinct values. */
+static uint32_t vector(const uint8_t *table, size_t table_len, double tolerance, uint32_t place, double x,
+                       uint32_t *number) {
+    static uint8_t knots[KNOTS * DEMSHARIN_QUANTITY_BYTES], rule[DEMSHARIN_SPAN_RULE_BYTES];
+    uint8_t distinct[DEMSHARIN_VECTOR_BYTES], quotient[DEMSHARIN_VALUE_BYTES];
+    put_knot(knots, 2.0, INCH, 0);
+    put_knot(knots + DEMSHARIN_QUANTITY_BYTES, 3.0, INCH, 0);
+    put_knot(knots + 2 * DEMSHARIN_QUANTITY_BYTES, 76.2, METRE, -3);
+    put_knot(knots + 3 * DEMSHARIN_QUANTITY_BYTES, 102.0, METRE, -3);
+    put(rule, bits_of(tolerance), 8);
+    put(rule + 8, 3, 4);
+    put_list(rule + 12, METRE);
+    put(rule + DEMSHARIN_RULE_BYTES, bits_of(x), 8);
+    put(rule + DEMSHARIN_RULE_BYTES + 8, place, 4);
+
+    uint32_t refusal = demsharin_knot_vector(table, table_len, knots, sizeof knots, rule, DEMSHARIN_RULE_BYTES,
+                                             distinct, sizeof distinct);
+    if (refusal == DEMSHARIN_ANSWERED)
+        refusal = demsharin_span_quotient(table, table_len, knots, sizeof knots, rule, sizeof rule, quotient,
+                                          sizeof quotient);
+    printf("2 inch, 3 inch, 76.2 mm, 102 mm within %g metre:", tolerance);
+    if (refusal != DEMSHARIN_ANSWERED) {
+        printf(" refusal %" PRIu32 "\n", refusal);
+        return refusal;
+    }
+    *number = (uint32_t)get(distinct, 4);
+    for (uint32_t at = 0; at < *number; at++) {
+        const uint8_t *run = distinct + DEMSHARIN_HEAD_BYTES + at * DEMSHARIN_DISTINCT_BYTES;
+        printf(" %.17g x %" PRIu64, value_of(get(run, 8)), get(run + 8, 4));
+    }
+    printf("; %g in the span behind knot %" PRIu32 ": %g\n", x, place, value_of(get(quotient, 8)));
+    return refusal;
+}
+
 int main(void) {
     uint8_t table[ROWS * DEMSHARIN_ROW_BYTES];
     uint8_t quantity[DEMSHARIN_QUANTITY_BYTES] = {0}, target[DEMSHARIN_LIST_BYTES] = {0};
@@ -91,5 +134,10 @@ int main(void) {
     uint32_t root = merged(table, sizeof table, 1, 65536, 1, 65537);
     printf("metre^2147483647 metre: refusal %" PRIu32 "\n", power);
     printf("metre^(1/65536) metre^(1/65537): refusal %" PRIu32 "\n", root);
-    return kept && power == DEMSHARIN_RANGE && root == DEMSHARIN_DENOMINATOR ? 0 : 1;
+
+    uint32_t apart = 0, together = 0;
+    int knots = vector(table, sizeof table, 0.0, 1, 0.1, &apart) == DEMSHARIN_ANSWERED && apart == 4 &&
+                vector(table, sizeof table, 2e-17, 1, 0.1, &together) == DEMSHARIN_ANSWERED && together == 3 &&
+                vector(table, sizeof table, -1.0, 1, 0.1, &together) == DEMSHARIN_ARGUMENT;
+    return kept && power == DEMSHARIN_RANGE && root == DEMSHARIN_DENOMINATOR && knots ? 0 : 1;
 }

@@ -1,22 +1,28 @@
-// One knot from two suppliers, converted by hand and by the library: the stations that docs/fold/draw.py draws.
+// One knot from two suppliers, a last place apart or made one by the library's knot vector: the B-splines that
+// docs/fold/draw.py draws, and the counts behind them.
 //
 // One supplier sends the front of a blade section in inches, the other the rest in millimetres, and both send the
-// station where they meet. A station is three lengths: the knot, and x and y of the point there. Lines of `hand` and of
-// `library` are stations in metres, as bits and then as they were sent. The rest is how far the cure goes: it lies in
-// the table, and the last lines count how many lengths that are sent in both units come out as one value.
-use demsharin::{Factor, Prefix, Quantity, Refusal, Row, Table};
+// station where they meet. A station is three lengths: the knot, and x and y of the point there. The section is the
+// clamped cubic B-spline over the knots through the stations, with the outer secants as tangents at its ends. A knot
+// that is there twice has one point, and the tangent of the parabola through it and its neighbours.
+//
+// Lines of `site`, `control` and `curve` are in metres; a curve's have the knot, the point, the derivative. The rest is
+// what is said of them.
+use demsharin::{Quantity, Refusal};
 
-#[derive(Clone, Copy)]
-enum Unit {
-    Inch,
-    Millimetre,
-}
-use Unit::{Inch, Millimetre};
+#[path = "fold/lengths.rs"]
+mod lengths;
+#[path = "fold/spellings.rs"]
+mod spellings;
+#[path = "fold/spline.rs"]
+mod spline;
 
-type Station = (Unit, [f64; 3]);
+use lengths::Unit::{self, Inch, Millimetre};
+use lengths::{Lengths, by_hand, last_place, sent, sent_to_hand};
+use spline::{Asked, Condition, Knots, Point, interpolated, point, tangent};
 
 /// The fourth and the fifth are one: 3 inch are 76.2 mm.
-const STATIONS: [Station; 8] = [
+const STATIONS: [(Unit, [f64; 3]); 8] = [
     (Inch, [0.0, 14.33, 4.38]),
     (Inch, [1.0, 13.77, 5.2]),
     (Inch, [2.0, 12.97, 5.8]),
@@ -26,131 +32,177 @@ const STATIONS: [Station; 8] = [
     (Millimetre, [128.0, 254.0, 143.8]),
     (Millimetre, [154.0, 230.0, 133.7]),
 ];
+/// The place of the fourth.
+const JOINT: usize = 3;
+/// So many points of each span are drawn.
+const SAMPLES: u32 = 24;
 
-/// What each supplier's reader would plausibly be written as. Both are right to a last place.
-fn by_hand(unit: Unit, value: f64) -> f64 {
-    match unit {
-        Inch => value * 25.4 / 1000.0,
-        Millimetre => value / 1000.0,
-    }
+/// A knot as it arrived, its point in metres, how it was sent.
+struct Station {
+    knot: Quantity,
+    point: Point,
+    sent: String,
 }
 
-fn sent_to_hand(unit: Unit, value: f64) -> String {
-    match unit {
-        Inch => format!("{value} inch * 25.4 / 1000"),
-        Millimetre => format!("{value} mm / 1000"),
-    }
-}
-
-fn sent(unit: Unit, value: f64) -> String {
-    match unit {
-        Inch => format!("{value} inch"),
-        Millimetre => format!("{value} mm"),
-    }
-}
-
-struct Lengths {
-    table: Table,
-    metre: Factor,
-    inch: Factor,
-}
-
-impl Lengths {
-    /// In tenths of a millimetre an inch, a millimetre and a metre are 254, 10 and 10,000: no scale is rounded. A length
-    /// in halves, quarters, .. 64ths of an inch times 254 is exact. In millimetres it is sent as the float nearest to
-    /// those tenths over 10, and that times 10 is the same tenths again, as for every divisor 2^i + 2^j (Kahan). So the
-    /// two spellings are one value before the metre divides it.
-    fn over_tenths() -> Lengths {
-        let tenth = Factor::of(0);
-        let rows = [Row::base(2), Row::derived(1, 10_000.0, vec![tenth]), Row::derived(0, 254.0, vec![tenth])];
-        Lengths { table: Table::new(&rows), metre: Factor::of(1), inch: Factor::of(2) }
-    }
-
-    /// The table one would write first. 0.0254 and the prefix's 0.001 are rounded, each its own way.
-    fn over_metres() -> Lengths {
-        let metre = Factor::of(0);
-        let rows = [Row::base(1), Row::derived(0, 0.0254, vec![metre])];
-        Lengths { table: Table::new(&rows), metre, inch: Factor::of(1) }
-    }
-
-    fn in_metres(&self, unit: Unit, value: f64) -> Result<Quantity, Refusal> {
-        let from = match unit {
-            Inch => self.inch,
-            Millimetre => self.metre.under(Prefix::Metric(-3)),
-        };
-        self.table.convert_to(&Quantity::new(value, from), &self.metre.into())
-    }
-
-    fn one_value(&self, (inch, millimetres): (f64, f64)) -> Result<bool, Refusal> {
-        self.table.equal(&self.in_metres(Inch, inch)?, &self.in_metres(Millimetre, millimetres)?)
-    }
-}
-
-fn line(by: &str, values: [f64; 3], sent: &str) {
-    let [knot, x, y] = values.map(f64::to_bits);
-    println!("{by} {knot:016x} {x:016x} {y:016x} {sent}");
-}
-
-fn hand_stations() {
-    for (unit, values) in STATIONS {
-        line("hand", values.map(|value| by_hand(unit, value)), &sent_to_hand(unit, values[0]));
-    }
-}
-
-/// A knot that the library finds equal to the one before is that one, and its point too.
-fn library_stations(lengths: &Lengths) -> Result<(), Refusal> {
-    let mut stations: Vec<(Quantity, [f64; 3], String)> = Vec::new();
-    for (unit, [knot, x, y]) in STATIONS {
-        let sent = sent(unit, knot);
-        let knot = lengths.in_metres(unit, knot)?;
-        if let Some((before, _, all)) = stations.last_mut()
-            && lengths.table.equal(before, &knot)?
-        {
-            *all = format!("{all}, {sent}");
-            continue;
-        }
-        let values = [knot.value, lengths.in_metres(unit, x)?.value, lengths.in_metres(unit, y)?.value];
-        stations.push((knot, values, sent));
-    }
-    stations.iter().for_each(|(_, values, sent)| line("library", *values, sent));
-    Ok(())
-}
-
-/// The same knot over the other table, where the library's two answers are the hand's.
-fn knot_over_metres() -> Result<(), Refusal> {
-    let lengths = Lengths::over_metres();
-    for (unit, [knot, ..]) in &STATIONS[3..5] {
-        let bits = lengths.in_metres(*unit, *knot)?.value.to_bits();
-        println!("over metres {bits:016x} {}", sent(*unit, *knot));
-    }
-    Ok(())
-}
-
-/// Every length up to 24 inches in steps of 1/parts, in inches and in millimetres, each the float nearest to it.
-fn both_spellings(parts: u32) -> impl Iterator<Item = (f64, f64)> {
-    let parts = f64::from(parts);
-    (1..=24 * parts as u32).map(f64::from).map(move |n| (n / parts, n * 254.0 / (parts * 10.0)))
-}
-
-/// Prints how many of them come out as one value, and answers how many over tenths.
-fn counted(parts: u32) -> Result<usize, Refusal> {
-    let one_value = |lengths: Lengths| -> Result<usize, Refusal> {
-        both_spellings(parts).try_fold(0, |sum, both| Ok(sum + usize::from(lengths.one_value(both)?)))
+/// The suppliers' readers convert, and the library gets metres.
+fn by_hands(lengths: &Lengths) -> Vec<Station> {
+    let station = |(unit, values): (Unit, [f64; 3])| {
+        let [knot, x, y] = values.map(|value| by_hand(unit, value));
+        Station { knot: lengths.metres(knot), point: [x, y], sent: sent_to_hand(unit, values[0]) }
     };
-    let hand = both_spellings(parts).filter(|(inch, mm)| by_hand(Inch, *inch) == by_hand(Millimetre, *mm)).count();
-    let (metres, tenths) = (one_value(Lengths::over_metres())?, one_value(Lengths::over_tenths())?);
-    println!(
-        "one value of {} lengths in steps of 1/{parts} inch: {hand} by hand, {metres} over metres, {tenths} over tenths",
-        both_spellings(parts).count()
-    );
-    Ok(tenths)
+    STATIONS.into_iter().map(station).collect()
+}
+
+/// The library converts.
+fn by_library(lengths: &Lengths) -> Result<Vec<Station>, Refusal> {
+    let station = |(unit, [knot, x, y]): (Unit, [f64; 3])| {
+        let metres = |value| lengths.in_metres(&lengths.quantity(unit, value));
+        Ok(Station { knot: lengths.quantity(unit, knot), point: [metres(x)?, metres(y)?], sent: sent(unit, knot) })
+    };
+    STATIONS.into_iter().map(station).collect()
+}
+
+/// Stations that the knot vector made one; the first's point stands, as the first's knot does.
+struct Site {
+    knot: f64,
+    point: Point,
+    times: u32,
+    sent: String,
+}
+
+/// A section over the library's knot vector of the stations' knots.
+struct Section<'a> {
+    sites: Vec<Site>,
+    knots: Knots<'a>,
+    control: Vec<Point>,
+}
+
+fn secant(a: &Site, b: &Site) -> Point {
+    [0, 1].map(|axis| (b.point[axis] - a.point[axis]) / (b.knot - a.knot))
+}
+
+/// The tangent of the parabola through a site and its neighbours.
+fn parabola(sites: &[Site], at: usize) -> Point {
+    let (before, own, after) = (&sites[at - 1], &sites[at], &sites[at + 1]);
+    let (left, right) = (own.knot - before.knot, after.knot - own.knot);
+    let (low, high) = (secant(before, own), secant(own, after));
+    [0, 1].map(|axis| (right * low[axis] + left * high[axis]) / (left + right))
+}
+
+fn conditions(sites: &[Site]) -> Vec<Condition> {
+    let last = sites.len() - 1;
+    let tangent = |at: usize, of: Point| Condition { knot: sites[at].knot, asked: Asked::Tangent, of };
+    let mut all = vec![tangent(0, secant(&sites[0], &sites[1]))];
+    for (at, site) in sites.iter().enumerate() {
+        all.push(Condition { knot: site.knot, asked: Asked::Point, of: site.point });
+        if site.times == 2 {
+            all.push(tangent(at, parabola(sites, at)));
+        }
+    }
+    all.push(tangent(last, secant(&sites[last - 1], &sites[last])));
+    all
+}
+
+impl Section<'_> {
+    fn new<'a>(lengths: &'a Lengths, stations: &[Station], tolerance: f64) -> Result<Section<'a>, Refusal> {
+        let arrived: Vec<Quantity> = stations.iter().map(|station| station.knot.clone()).collect();
+        let vector = lengths.table.knot_vector(&arrived, &lengths.rule(tolerance))?;
+        let (mut sites, mut rest) = (Vec::new(), stations);
+        for run in vector.distinct {
+            let (own, others) = rest.split_at(run.multiplicity as usize);
+            let sent: Vec<&str> = own.iter().map(|station| station.sent.as_str()).collect();
+            let site = Site { knot: run.value, point: own[0].point, times: run.multiplicity, sent: sent.join(", ") };
+            sites.push(site);
+            rest = others;
+        }
+        let knots = Knots::clamped(lengths, &arrived, tolerance)?;
+        let control = interpolated(&knots, &conditions(&sites))?;
+        Ok(Section { sites, knots, control })
+    }
+
+    /// Where the curve is drawn; between two neighbouring floats there is nothing.
+    fn samples(&self) -> Vec<f64> {
+        let mut all = vec![self.sites[0].knot];
+        for ends in self.sites.windows(2) {
+            let (left, right) = (ends[0].knot, ends[1].knot);
+            let part = |n| left + (right - left) * f64::from(n) / f64::from(SAMPLES);
+            all.extend((1..SAMPLES).map(part).filter(|x| left < *x && *x < right));
+            all.push(right);
+        }
+        all
+    }
+
+    fn tangent(&self) -> Result<Point, Refusal> {
+        tangent(&self.knots, &self.control, self.sites[JOINT].knot)
+    }
+
+    fn print(&self, name: &str) -> Result<(), Refusal> {
+        for Site { knot, point: [x, y], times, sent } in &self.sites {
+            println!("site {name} {knot} {x} {y} {times} {sent}");
+        }
+        self.control.iter().for_each(|[x, y]| println!("control {name} {x} {y}"));
+        for knot in self.samples() {
+            let [x, y] = point(&self.knots, &self.control, knot)?;
+            let [dx, dy] = tangent(&self.knots, &self.control, knot)?;
+            println!("curve {name} {knot} {x} {y} {dx} {dy}");
+        }
+        Ok(())
+    }
+}
+
+/// How far two answers lie apart at most.
+fn apart(a: Point, b: Point) -> f64 {
+    (a[0] - b[0]).abs().max((a[1] - b[1]).abs())
+}
+
+fn said(what: &str, section: &Section) -> Result<(), Refusal> {
+    let [dx, dy] = section.tangent()?;
+    let Site { knot, times, .. } = section.sites[JOINT];
+    println!("{what}: {} knots, {knot} × {times}, tangent ({dx:.3}, {dy:.3})", section.sites.len());
+    Ok(())
+}
+
+/// The control points of one section over another's knots: how far the curves and their derivatives lie apart at most.
+fn evaluated(one: &Section, knots: &Knots) -> Result<(), Refusal> {
+    let (mut points, mut tangents) = (0f64, 0f64);
+    for x in one.samples() {
+        points = points.max(apart(point(&one.knots, &one.control, x)?, point(knots, &one.control, x)?));
+        tangents = tangents.max(apart(tangent(&one.knots, &one.control, x)?, tangent(knots, &one.control, x)?));
+    }
+    println!("its control points over the hands' knots: points within {points:.1e}, tangents within {tangents:.1e}");
+    Ok(())
+}
+
+fn sections() -> Result<(), Refusal> {
+    let (metres, tenths) = (Lengths::over_metres(), Lengths::over_tenths());
+    let hand = Section::new(&metres, &by_hands(&metres), 0.0)?;
+    let sent = by_library(&metres)?;
+    let apart_still = Section::new(&metres, &sent, 0.0)?;
+    let place = last_place(apart_still.sites[JOINT].knot);
+    let merged = Section::new(&metres, &sent, place)?;
+    let exact = Section::new(&tenths, &by_library(&tenths)?, 0.0)?;
+    hand.print("hand")?;
+    merged.print("merged")?;
+    println!("tolerance {place}");
+    println!("exact {} {}", exact.sites[JOINT].knot, exact.sites[JOINT].times);
+
+    let [dx, dy] = secant(&hand.sites[JOINT], &hand.sites[JOINT + 1]);
+    println!("the secant of the hands' two knots: ({dx}, {dy})");
+    said("by hand, within 0", &hand)?;
+    said("over metres, within 0", &apart_still)?;
+    said("over tenths, within 0", &exact)?;
+    said("over metres, within a last place", &merged)?;
+    let mut most = 0f64;
+    for x in merged.samples() {
+        most = most.max(apart(point(&merged.knots, &merged.control, x)?, point(&exact.knots, &exact.control, x)?));
+    }
+    println!("the last one lies within {most:.1e} metre of the one before");
+    evaluated(&merged, &hand.knots)
 }
 
 fn main() -> Result<(), Refusal> {
-    hand_stations();
-    library_stations(&Lengths::over_tenths())?;
-    knot_over_metres()?;
-    assert_eq!(counted(64)?, both_spellings(64).count());
-    counted(100)?;
+    sections()?;
+    assert!(spellings::counted(64)?);
+    spellings::counted(100)?;
     Ok(())
 }

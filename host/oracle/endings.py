@@ -22,18 +22,26 @@ import time
 from collections import Counter
 
 LIMIT = 65536
+KNOTS_LIMIT = 262144
 END = b"\xff\xff\xff\xff"
 TWO = {5, 7, 8, 15, 16, 21, 23, 24, 25, 26}
-ANSWERS = {1: 8, 6: 4, 7: 332, 17: 4, 18: 4, 20: 12} | dict.fromkeys([2, 3, 4, 5, 19], 324)
-QUANTITY, ROW = 336, 176
-FILES = range(24, 27)
-LAST = 27
-REFUSALS = range(1, 14)
+ANSWERS = {1: 8, 6: 4, 7: 332, 17: 4, 18: 4, 20: 12, 29: 8} | dict.fromkeys([2, 3, 4, 5, 19], 324)
+QUANTITY = 336
+# Answers of a length of their own, by what stands behind their head: bytes, rows, distinct values.
+HEADED = {24: 1, 25: 176, 26: 176, 28: 16}
+KNOTS = {28, 29}
+LAST = 29
+REFUSALS = range(1, 17)
 
 
 def arguments(code):
     """How many arguments a request has, the table among them."""
     return 1 if code == 1 else 2 if code in TWO else 3
+
+
+def limit(code, place):
+    """The most bytes of an argument by its place; knots are the second."""
+    return KNOTS_LIMIT if code in KNOTS and place == 1 else LIMIT
 
 
 def word(stream, at):
@@ -50,9 +58,9 @@ def whole(stream, at, codes):
     if code not in codes:
         return None
     at += 4
-    for _ in range(arguments(code)):
+    for place in range(arguments(code)):
         length = word(stream, at)
-        if length is None or length > LIMIT or at + 4 + length > len(stream):
+        if length is None or length > limit(code, place) or at + 4 + length > len(stream):
             return None
         at += 4 + length
     return at
@@ -82,6 +90,14 @@ def lengths_at(request):
     return out
 
 
+def one_length(rng, good):
+    """A request, where one of its lengths stands, and that argument's limit; one in three has knots, if any has."""
+    with_knots = [request for request in good if word(request, 0) in KNOTS]
+    request = rng.choice(with_knots if with_knots and rng.random() < 0.33 else good)
+    place, at = rng.choice(list(enumerate(lengths_at(request))))
+    return request, at, limit(word(request, 0), place)
+
+
 def cut(rng, good, codes):
     """A request cut short: anywhere, inside its code or beside a length."""
     request = rng.choice(good)
@@ -92,20 +108,18 @@ def cut(rng, good, codes):
 
 def too_long(rng, good, codes):
     """A length over the limit: with nothing behind it, the bytes as they were, or as many as it says."""
-    request = rng.choice(good)
-    at = rng.choice(lengths_at(request))
-    near, far = [LIMIT + 1, LIMIT + 1, LIMIT + 2, LIMIT + 176], [2**31 - 1, 2**31, 2**32 - 4, 2**32 - 1]
-    length = rng.choice(near + far + [2 * LIMIT, rng.randrange(LIMIT + 1, 2**32)])
-    behind = rng.choice([b"", request[at + 4 :], bytes(length) if length < 2 * LIMIT else request[at + 4 :]])
+    request, at, most = one_length(rng, good)
+    near, far = [most + 1, most + 1, most + 2, most + 176], [2**31 - 1, 2**31, 2**32 - 4, 2**32 - 1]
+    length = rng.choice(near + far + [2 * most, rng.randrange(most + 1, 2**32)])
+    behind = rng.choice([b"", request[at + 4 :], bytes(length) if length < 2 * most else request[at + 4 :]])
     return request[:at] + words(length) + behind + after(rng, good)
 
 
 def longest(rng, good, codes):
     """An argument of exactly the limit is answered; what comes behind it may be cut."""
-    request = rng.choice(good)
-    at = rng.choice(lengths_at(request))
+    request, at, most = one_length(rng, good)
     rest = request[at + 4 + word(request, at) :]
-    stream = request[:at] + words(LIMIT) + rng.randbytes(LIMIT) + rest
+    stream = request[:at] + words(most) + rng.randbytes(most) + rest
     return rng.choice([stream, stream + after(rng, good), stream[: -rng.randrange(1, 400)]])
 
 
@@ -181,10 +195,10 @@ def feed(file):
 
 
 def right_length(code, stream, at):
-    """Of the answer that begins at a place; that of a file's call says by its first number how much is behind its head."""
-    if code not in FILES:
+    """Of the answer that begins at a place; one with a head says by its first number how much is behind it."""
+    if code not in HEADED:
         return ANSWERS.get(code, QUANTITY)
-    return 8 + (word(stream, at) or 0) * (1 if code == 24 else ROW)
+    return 8 + (word(stream, at) or 0) * HEADED[code]
 
 
 def answers(stream, found):

@@ -1,7 +1,7 @@
 # The steps of `run`, sourced with $here, $root, $build, $published and $streams set.
 
 # The codes that `calls` answers, every other being an unknown one to it; and those that are asked.
-standing=$(seq -s, 1 27)
+standing=$(seq -s, 1 29)
 asked=${ORACLE_CODES:-$standing}
 
 # The stored records stand beside the program that answers them again.
@@ -82,11 +82,11 @@ depths() {
     done
 }
 
-# wrong [list] [files] [halves] [merged]: how many answers each wrong reading changes, in 60,000 generated requests and
-# in stored records; of 01, which the Rust judges, and of 02's orders 1, 2 and 3, which the right reading judges
+# wrong [list] [files] [halves] [merged] [knots]: how many answers each wrong reading changes, in 60,000 generated
+# requests and in stored records; of 01, which the Rust judges, and of 02's orders 1 to 4, which the right reading judges
 wrong() {
     local word
-    [ $# -gt 0 ] || set -- list files halves merged
+    [ $# -gt 0 ] || set -- list files halves merged knots
     for word in "$@"; do "wrong_$word"; done
 }
 
@@ -115,6 +115,14 @@ wrong_merged() {
     program generate 2 30000 --calls 27 --halves >>"$streams/requests"
     program oracle --reading <"$streams/requests" >"$streams/right"
     wrong_table merged "wrong reading of order 3" "the stored records" "$records/edges-merged.bin"
+}
+
+# One in six has damaged bytes, so that wrong lengths are met too.
+wrong_knots() {
+    program generate 1 50000 --calls 28,29 --faults 0 >"$streams/requests"
+    program generate 2 10000 --calls 28,29 --faults 0 --wild >>"$streams/requests"
+    program oracle --reading <"$streams/requests" >"$streams/right"
+    wrong_table knots "wrong reading of order 4" "the stored records" "$records/edges-knots.bin"
 }
 
 # wrong_table WORD TITLE LIST FILE ..: a line for each wrong reading that wrong.py lists under the word
@@ -309,7 +317,8 @@ edges() {
     python3 "$here/edges.py" write "$records"
     python3 -B "$here/halves.py" write "$records"
     python3 -B "$here/merged.py" write "$records"
-    for name in limits admissions halves merged; do
+    python3 -B "$here/knots.py" write "$records"
+    for name in limits admissions halves merged knots; do
         program store split "$streams/requests" "$streams/stored" "$records/edges-$name.bin"
         program oracle <"$streams/requests" >"$streams/rust"
         program oracle --reading <"$streams/requests" >"$streams/reading"
@@ -358,10 +367,12 @@ named_file() {
     "${cases[@]}" table "$streams"/{rust,reading}.text
 }
 
-# What `calls` answers in the gate, and 01's answers: requests with many faults, the last one cut short.
+# What `calls` answers in the gate, and 01's answers: the longest knots, then requests with many faults, the last one cut
+# short.
 stream() {
     local folder=$root/crates/calls
-    program generate 7000 160 --calls "$standing" --rows 3 --faults 30 >"$streams/requests"
+    python3 -B "$here/knots.py" longest >"$streams/requests"
+    program generate 7000 160 --calls "$standing" --rows 3 --faults 30 >>"$streams/requests"
     head -c -100 "$streams/requests" >"$folder/stdin"
     program oracle --reading --standing "$standing" <"$folder/stdin" >"$folder/stdout"
     program compare "$folder/stdin" "$folder/stdout" "$folder/stdout"

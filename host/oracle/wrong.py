@@ -1,11 +1,12 @@
 #!/usr/bin/env python3
-# Puts one wrong reading of 01, or of 02's orders 1 to 3, into a copy of the folder `scope`, to see whether generated
+# Puts one wrong reading of 01, or of 02's orders 1 to 4, into a copy of the folder `scope`, to see whether generated
 # requests and the stored list show it. Each is an exact text put for another that must stand there once.
 #
 #   wrong.py list              names all of 01
 #   wrong.py files             names all of 02's order 1
 #   wrong.py halves            names all of 02's order 2
 #   wrong.py merged            names all of 02's order 3
+#   wrong.py knots             names all of 02's order 4
 #   wrong.py NAME FOLDER       writes the copy with that one
 import pathlib
 import shutil
@@ -198,15 +199,103 @@ MERGED = {
     "simplified-by-order-3": ("simplification.rs", CONVERTED, "use crate::conversion::converted_merged as converted;"),
 }
 
+# Of order 4: what is looked at in which order, how runs are made, what a span is.
+ARGUED = "    let (knots, rule) = argued(bytes::knots(knots), rule)?;"
+NO_TOLERANCE = """    if let (Some(all), Some(rule)) = (bytes::knots(knots), &rule) {
+        if (1..=KNOTS).contains(&all.len()) && (1..=DEGREE).contains(&rule.degree) {
+            converted(table, &all, &rule.target)?;
+        }
+    }
+"""
+BY_SHAPE = "Some(bytes::knots(knots).ok_or(2u32)?)"
+EVERY_KNOT = "    for knot in knots {\n        let own"
+FROM_THE_LAST_KNOT = """    for knot in knots.iter().rev() {
+        let (own, to) = (resolved(&table, Some(knot.unit.clone()))?, resolved(&table, Some(target.clone()))?);
+        converted_merged(&table, knot.value(), &own, &to)?;
+    }
+"""
+ALL_LISTS = "    for knot in knots { resolved(&table, Some(knot.unit.clone()))?; }\n"
+OWN_LIST = "let own = resolved(&table, Some(knot.unit.clone()))?;"
+CONVERTS = "values.push(converted_merged(&table, knot.value(), &own, &target)?);"
+LAST_STEPS = "    ordered(&values)?;\n    merged(&values, &rule)"
+OF_FIRSTS = "let firsts: Vec<f64> = runs(&values, f64::from_bits(rule.tolerance)).iter().map(|run| run[0]).collect();"
+NO_NUMBER = "value.is_nan() || value.is_infinite()"
+JOINS = "*value - run[0] <= tolerance"
+BY_MERGED = "use crate::conversion::converted_merged;"
+RUNS = """    for value in values {
+        match runs.last_mut() {
+            Some(run) if *value - run[0] <= tolerance => run.push(*value),
+            _ => runs.push(vec![*value]),
+        }
+    }
+"""
+FROM_THE_HIGHEST = """    for value in values.iter().rev() {
+        match runs.last_mut() {
+            Some(run) if run[run.len() - 1] - *value <= tolerance => run.insert(0, *value),
+            _ => runs.push(vec![*value]),
+        }
+    }
+    runs.reverse();
+"""
+STANDS = "bits: bits_of(run[0])"
+TOO_MANY = "rule.degree as usize + 1"
+SPAN_RUNS = "let runs = taken(table, knots, asked.clone().map(|asked| asked.rule))?;"
+NO_PLACE = "asked.as_ref().is_some_and(|asked| asked.place as usize + 1 >= knots.len() / 336)"
+SPAN_FIRST = "if " + NO_PLACE + " { return Err(ARGUMENT); }\n    " + SPAN_RUNS
+NO_MULTIPLE = f".map_err(|r| if r == MULTIPLE && {NO_PLACE} {{ ARGUMENT }} else {{ r }})?;"
+IN_ONE_RUN = "if std::ptr::eq(*left, *right) {"
+FIRSTS = "let (left, right) = (left[0], right[0]);"
+QUOTIENT = "Ok((x - left) / (right - left))"
+ENDLESS = "if (right - left).is_infinite() { return Err(ORDER); }\n    "
+
+KNOTS = {
+    "argument-after-table": ("knots.rs", ARGUED, "    admitted(bytes::table(table))?;\n" + ARGUED),
+    "tolerance-after-conversion": ("knots.rs", ARGUED, NO_TOLERANCE + ARGUED),
+    "minus-zero-refused": ("knots.rs", "tolerance < 0.0", "tolerance.is_sign_negative()"),
+    "any-tolerance-below-zero": ("knots.rs", " || tolerance < 0.0", ""),
+    "infinite-tolerance-taken": ("knots.rs", "tolerance.is_nan() || tolerance.is_infinite() ||", "tolerance.is_nan() ||"),
+    "513-knots-taken": ("knots.rs", "KNOTS: usize = 512", "KNOTS: usize = 513"),
+    "512-knots-refused": ("knots.rs", "KNOTS: usize = 512", "KNOTS: usize = 511"),
+    "degree-10-taken": ("knots.rs", "DEGREE: u32 = 9", "DEGREE: u32 = 10"),
+    "length-is-shape": ("knots.rs", ARGUED, ARGUED.replace("bytes::knots(knots)", BY_SHAPE)),
+    "by-the-old-rule": ("knots.rs", BY_MERGED, BY_MERGED.replace("converted_merged", "converted as converted_merged")),
+    "last-refused-knot": ("knots.rs", EVERY_KNOT, FROM_THE_LAST_KNOT + EVERY_KNOT),
+    "all-lists-first": ("knots.rs", EVERY_KNOT, ALL_LISTS + EVERY_KNOT),
+    "target-before-the-knot": ("knots.rs", OWN_LIST, "resolved(&table, Some(target.clone()))?;\n        " + OWN_LIST),
+    "order-knot-by-knot": ("knots.rs", CONVERTS, CONVERTS + "\n        ordered(&values)?;"),
+    "order-after-merging": ("knots.rs", LAST_STEPS, OF_FIRSTS + LAST_STEPS.replace("ordered(&values)", "ordered(&firsts)")),
+    "multiple-before-order": ("knots.rs", LAST_STEPS, "merged(&values, &rule)?;\n" + LAST_STEPS),
+    "fall-by-equal": ("knots.rs", "pair[1] < pair[0]", "pair[1] <= pair[0]"),
+    "nan-let-through": ("knots.rs", NO_NUMBER, "value.is_infinite()"),
+    "infinity-let-through": ("knots.rs", NO_NUMBER, "value.is_nan()"),
+    "chained-runs": ("knots.rs", JOINS, JOINS.replace("run[0]", "run[run.len() - 1]")),
+    "tolerance-strictly": ("knots.rs", JOINS, JOINS.replace("<=", "<")),
+    "sum-for-difference": ("knots.rs", JOINS, "*value <= run[0] + tolerance"),
+    "from-the-highest": ("knots.rs", RUNS, FROM_THE_HIGHEST),
+    "last-stands": ("knots.rs", STANDS, STANDS.replace("run[0]", "run[run.len() - 1]")),
+    "minus-zero-stands-as-zero": ("knots.rs", STANDS, STANDS.replace("run[0]", "run[0] + 0.0")),
+    "limit-degree": ("knots.rs", TOO_MANY, "rule.degree as usize"),
+    "limit-degree-plus-2": ("knots.rs", TOO_MANY, "rule.degree as usize + 2"),
+    "span-before-all": ("knots.rs", SPAN_RUNS, SPAN_FIRST),
+    "span-before-multiple": ("knots.rs", SPAN_RUNS, SPAN_RUNS.replace("?;", NO_MULTIPLE)),
+    "last-knot-has-a-span": ("knots.rs", "of_knots.get(to))", "of_knots.get(to).or(of_knots.get(from)))"),
+    "merged-span-is-nan": ("knots.rs", "return Ok(0.0);", "return Ok(f64::NAN);"),
+    "merged-span-of-nan": ("knots.rs", IN_ONE_RUN, IN_ONE_RUN.replace(" {", " && !x.is_nan() {")),
+    "merged-span-divided": ("knots.rs", IN_ONE_RUN, "if false {"),
+    "ends-at-the-knots": ("knots.rs", FIRSTS, "let (left, right) = (runs.concat()[from], runs.concat()[to]);"),
+    "quotients-subtracted": ("knots.rs", QUOTIENT, "Ok(x / (right - left) - left / (right - left))"),
+    "infinite-divisor-refused": ("knots.rs", QUOTIENT, ENDLESS + QUOTIENT),
+}
+
 
 def main():
-    names = {"list": WRONG, "files": FILES, "halves": HALVES, "merged": MERGED}
+    names = {"list": WRONG, "files": FILES, "halves": HALVES, "merged": MERGED, "knots": KNOTS}
     if len(sys.argv) == 2:
         print("\n".join(names[sys.argv[1]]))
         return
     name, folder = sys.argv[1], pathlib.Path(sys.argv[2])
     shutil.copytree(HERE / "scope", folder)
-    file, old, new = (WRONG | FILES | HALVES | MERGED)[name]
+    file, old, new = (WRONG | FILES | HALVES | MERGED | KNOTS)[name]
     text = (folder / file).read_text()
     if text.count(old) != 1:
         sys.exit(f"wrong: {name} applies {text.count(old)} times")

@@ -4,6 +4,7 @@ use Rattle.codes.specs.Codes.{Call, two, three}
 use Rattle.wiretables.specs.Arguments.{wordFrom}
 use Rattle.askfiles.specs.Calls as files
 use Rattle.askconversions.specs.Calls as conversions
+use Rattle.askknots.specs.Calls as knots
 
 unfoldable pub calls : List Call
 calls =
@@ -11,4 +12,6 @@ calls =
     ∷ two 25 (λ file places. files.readTable file (wordFrom places))
     ∷ two 26 (λ file places. files.salvageTable file (wordFrom places))
     ∷ three 27 conversions.convertMerged
+    ∷ three 28 knots.knotVector
+    ∷ three 29 knots.spanQuotient
     ∷ []

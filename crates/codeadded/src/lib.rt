@@ -9,7 +9,7 @@ use replies::Reply;
 use wiretables::word;
 
 // By code, how many arguments a call has: 0 for none of these.
-const ARITIES: [u32; 28] = [
+const ARITIES: [u32; 30] = [
     0,
     0,
     0,
@@ -38,12 +38,14 @@ const ARITIES: [u32; 28] = [
     2,
     2,
     3,
+    3,
+    3,
 ];
 
 pub fn arity(code: u32) -> u32
     ensures { λ r. ⌜ (r ≡ look calls code .arity) × (r ≤ 3) ⌝ }
 {
-    if code < 28 { ARITIES[code as usize] } else { 0 }
+    if code < 30 { ARITIES[code as usize] } else { 0 }
 }
 
 // The call with this code; its arguments are the first of these.
@@ -55,6 +57,8 @@ pub fn call(code: u32, a: &[u8], b: &[u8], c: &[u8], out: &mut [u8]) -> Reply
         25 => askfiles::read_table(a, word(b) as usize, out),
         26 => askfiles::salvage_table(a, word(b) as usize, out),
         27 => askconversions::convert_merged(a, b, c, out),
+        28 => askknots::knot_vector(a, b, c, out),
+        29 => askknots::span_quotient(a, b, c, out),
         _ => replies::refused(SHAPE),
     }
 }

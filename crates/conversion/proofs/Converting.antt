@@ -10,6 +10,7 @@ use Rattle.exponents.specs.Outcome.{Outcome, given, UNITS, number, bind, apply}
 use Rattle.exponents.specs.declared.Exponent.{Exponent}
 use Rattle.exponents.proofs.Holds.{bind-given, bind-refused}
 use Rattle.exponents.proofs.Numbers.{Refuses}
+use Rattle.floats.specs.Values.{isZero}
 use Rattle.units.specs.declared.Factor.{Factor}
 use Rattle.tables.specs.declared.scales.Scaled.the-variants.{Value as Scale, Refused as NoScale}
 use Rattle.tables.specs.Lists.{base}
@@ -23,7 +24,10 @@ use Rattle.conversion.specs.declared.convert.Converted.the-variants.{Val
 use Rattle.common.specs.Common.{common, over}
 use Rattle.common.specs.Held.{lessen}
 use Rattle.conversion.specs.Conversion.{judged, choose, rescaled, against, unlike, convertBy}
-use Rattle.conversion.specs.Held.{convertedOf}
+use Rattle.conversion.specs.Held.{convertedOf, scaledBy, scalesAlone, ratedBy}
+use Rattle.conversion.specs.declared.convert.Scales.{Scales}
+use Rattle.conversion.specs.declared.convert.Rate.{Rate}
+use Rattle.conversion.proofs.Rating.{rate-scaled}
 use Rattle.common.proofs.Lessening.{lessen-none}
 
 -- base exponents compared as code holds them
@@ -125,6 +129,10 @@ module _ (R : Rules Float) where
         pub keeps-value : (R .numbers .isZero x || sameList (R .order) cl cm) ≡ true → Value x ≡ convertedOf converted
         unfolding choose
         keeps-value h = sym (ap (λ t. convertedOf (choose t x unlikes)) h) ∙ chooses
+
+        -- lists that differ: a zero stays, and any other value goes by two scales
+        pub by-scales : (R .numbers .isZero x ≡ isZero x) → {r : Rate} {s : Scales} → r ≡ scalesAlone s → (isZero x ≡ false → scaledBy s x ≡ convertedOf converted) → ratedBy r x ≡ convertedOf converted
+        by-scales z {r} {s} e goes = rate-scaled s x e (λ h. keeps-value (ap (λ t. t || sameList (R .order) cl cm) (z ∙ h))) goes
 
         -- own and target over the common factors, as code has them
         module _ (own target : Outcome (List Factor)) (e : ready (over l (common (R .order) cl cm)) ≡ own) (f : canon (R .order) (over m (common (R .order) cl cm)) ≡ target) (h : (R .numbers .isZero x || sameList (R .order) cl cm) ≡ false) where

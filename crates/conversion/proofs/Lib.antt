@@ -1,3 +1,4 @@
+pub mod Rating
 pub mod Converting
 pub mod Refusals
 pub mod Cases

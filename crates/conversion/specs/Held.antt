@@ -1,14 +1,20 @@
--- How code makes the own list ready, by a flag, and how it hands a converted value over.
-use mathlib.Core.Bool.{Bool, true, false}
+-- How code makes the own list ready, by a flag, how it hands a converted value over, and what it keeps of a conversion for any value.
+use mathlib.Core.Bool.{Bool, true, false, _||_}
 use mathlib.Core.List.{List}
 use Prim.Native.Nat.{ℕ, Ordering}
-use lib.Ieee.{Float}
+use lib.Dec.{eqb}
+use lib.Ieee.{Float, binary64, mul, div}
+use Rattle.floats.specs.Power.{one}
+use Rattle.floats.specs.Values.{isZero}
+use Rattle.exponents.specs.Words.{pick}
 use Rattle.exponents.specs.Outcome.{Outcome, given, refused, number}
 use Rattle.units.specs.declared.Factor.{Factor}
 use Rattle.tables.specs.Order.{Atom}
 use Rattle.canonical.specs.Canonical.{canon}
 use Rattle.conversion.specs.Conversion.{standing}
 use Rattle.conversion.specs.declared.convert.Converted.{Converted}
+use Rattle.conversion.specs.declared.convert.Scales.{Scales}
+use Rattle.conversion.specs.declared.convert.Rate.{Rate}
 use Rattle.conversion.specs.declared.convert.Converted.the-variants.{Value, Refused}
 
 -- canonical if the flag says so, else as it stands
@@ -23,3 +29,25 @@ convertedOf (refused r) = Refused (number r)
 abbrev pub refusedBy : Converted → ℕ
 refusedBy (Value v) = 0
 refusedBy (Refused n) = n
+
+-- ---- any value, by what is kept of a conversion
+
+abbrev pub unscaled : ℕ → Scales
+unscaled n = record { own = one; target = one; refusal = n }
+
+-- times the own scale, divided by the target's
+unfoldable pub scaledBy : Scales → Float → Converted
+scaledBy s x = pick (eqb (s .refusal) 0) (Value (div binary64 (mul binary64 x (s .own)) (s .target))) (Refused (s .refusal))
+
+abbrev pub unrated : ℕ → Rate
+unrated n = record { scales = unscaled 0; refusal = n; keeps = false }
+
+abbrev pub kept : Rate
+kept = record { scales = unscaled 0; refusal = 0; keeps = true }
+
+abbrev pub scalesAlone : Scales → Rate
+scalesAlone s = record { scales = s; refusal = 0; keeps = false }
+
+-- a zero, and any value of equal lists, stays as it is
+unfoldable pub ratedBy : Rate → Float → Converted
+ratedBy r x = pick (eqb (r .refusal) 0) (pick (isZero x || r .keeps) (Value x) (scaledBy (r .scales) x)) (Refused (r .refusal))

@@ -1,13 +1,16 @@
 // A value converted from one resolved list to another (01, "Conversion, sums, comparison"; 02, order 3): RANGE or DENOMINATOR, then UNITS, then FRACTION.
 ghost use mathlib.Core.Path.{_≡_};
+ghost use mathlib.Core.Bool.{true};
 ghost use mathlib.Core.List.{List, _++_};
 ghost use Prim.Native.Nat.{ℕ};
+ghost use lib.Ieee.{Float};
 ghost use Rattle.exponents.specs.Outcome.{given, bind};
+ghost use Rattle.floats.specs.Values.{isZero};
 ghost use Rattle.units.specs.declared.Factor.{Factor as Factorᵛ};
 ghost use Rattle.tables.specs.Rules.{scaleBy};
 ghost use Rattle.tables.specs.Held.{scaledOf, View, Resolved, Lends, rulesBy};
 ghost use Rattle.conversion.specs.Conversion as spec;
-ghost use Rattle.conversion.specs.Held.{readyIf, convertedOf, refusedBy};
+ghost use Rattle.conversion.specs.Held.{readyIf, convertedOf, refusedBy, unscaled, scaledBy, unrated, kept, scalesAlone, ratedBy};
 ghost use Rattle.common.specs.Held.{lessen};
 use exponents::refusals::UNITS;
 use tables::Items;
@@ -29,84 +32,109 @@ pub fn refusal_of(c: Converted) -> u32
     }
 }
 
-// x times the own scale a, divided by the scale of t.
-fn rescaled(x: f64, a: Scaled, t: Items) -> Converted
-    ensures { λ r. ⌜ ((v : View) (n : ℕ) (own ts : List Factorᵛ) → a ≡ scaledOf (scaleBy (rulesBy v n) own) → Resolved v t ts → r ≡ convertedOf (spec.rescaled (rulesBy v n) own ts x)) ⌝ }
+// ---- the two scales by which any value is converted
+
+// The own scale and the target's; or the number of the refusal of any value.
+pub struct Scales {
+    pub own: f64,
+    pub target: f64,
+    pub refusal: u32,
+}
+
+fn no_scales(refusal: u32) -> Scales
+    ensures { λ r. ⌜ r ≡ unscaled refusal ⌝ }
+{
+    Scales {
+        own: 1.0,
+        target: 1.0,
+        refusal: refusal,
+    }
+}
+
+// x times the own scale, divided by the target's.
+fn scaled(s: Scales, x: f64) -> Converted
+    ensures { λ r. ⌜ r ≡ scaledBy s x ⌝ }
+{
+    if s.refusal == 0 {
+        return Converted::Value(x * s.own / s.target);
+    }
+    Converted::Refused(s.refusal)
+}
+
+// The own scale a and the scale of t.
+fn rescaled(a: Scaled, t: Items) -> Scales
+    ensures { λ r. ⌜ ((v : View) (n : ℕ) (own ts : List Factorᵛ) → a ≡ scaledOf (scaleBy (rulesBy v n) own) → Resolved v t ts → (x : Float) → scaledBy r x ≡ convertedOf (spec.rescaled (rulesBy v n) own ts x)) ⌝ }
 {
     match a {
         Scaled::Value(own) => {
             let b = reduction::bases::scale_from(1.0, t);
             match b {
-                Scaled::Value(target) => Converted::Value(x * own / target),
-                Scaled::Refused(r) => Converted::Refused(r),
+                Scaled::Value(target) => Scales {
+                    own: own,
+                    target: target,
+                    refusal: 0,
+                },
+                Scaled::Refused(r) => no_scales(r),
             }
         }
-        Scaled::Refused(r) => Converted::Refused(r),
+        Scaled::Refused(r) => no_scales(r),
     }
 }
 
 // Between lists that have no factors in common: m is the target's canonical form.
-fn apart(x: f64, l: Items, m: Items, n: usize, nums: &[i32], dens: &[u32]) -> Converted
-    ensures { λ r. ⌜ ((v : View) (fs gs : List Factorᵛ) → Lends v n (now (nums .entry)) (now (dens .entry)) → Resolved v l fs → Resolved v m gs → r ≡ convertedOf (spec.against (rulesBy v n) fs (given gs) x)) ⌝ }
+fn apart(l: Items, m: Items, n: usize, nums: &[i32], dens: &[u32]) -> Scales
+    ensures { λ r. ⌜ ((v : View) (fs gs : List Factorᵛ) → Lends v n (now (nums .entry)) (now (dens .entry)) → Resolved v l fs → Resolved v m gs → (x : Float) → scaledBy r x ≡ convertedOf (spec.against (rulesBy v n) fs (given gs) x)) ⌝ }
 {
     let a = reduction::bases::base_of(l, n, nums, dens);
     if a.refusal != 0 {
-        return Converted::Refused(a.refusal);
+        return no_scales(a.refusal);
     }
     let b = reduction::bases::base_of(m, n, nums, dens);
     if b.refusal != 0 {
-        return Converted::Refused(b.refusal);
+        return no_scales(b.refusal);
     }
     let p = a.at;
     let q = b.at;
     if !reduction::bases::same_exponents(p, q) {
-        return Converted::Refused(UNITS);
+        return no_scales(UNITS);
     }
     let s = reduction::bases::scale_from(1.0, l);
-    rescaled(x, s, m)
+    rescaled(s, m)
 }
 
 // Between lists that differ: c has their common factors, inverted, and m is the target's canonical form. The own list over c is not merged.
-fn unlike(x: f64, l: Items, m: Items, c: Items, n: usize, nums: &[i32], dens: &[u32]) -> Converted
-    ensures { λ r. ⌜ ((v : View) (fs gs cs : List Factorᵛ) → Lends v n (now (nums .entry)) (now (dens .entry)) → Resolved v l fs → Resolved v m gs → Resolved v c cs → r ≡ convertedOf (spec.against (rulesBy v n) (fs ++ cs) (lessen (v .order) gs cs) x)) ⌝ }
+fn unlike(l: Items, m: Items, c: Items, n: usize, nums: &[i32], dens: &[u32]) -> Scales
+    ensures { λ r. ⌜ ((v : View) (fs gs cs : List Factorᵛ) → Lends v n (now (nums .entry)) (now (dens .entry)) → Resolved v l fs → Resolved v m gs → Resolved v c cs → (x : Float) → scaledBy r x ≡ convertedOf (spec.against (rulesBy v n) (fs ++ cs) (lessen (v .order) gs cs) x)) ⌝ }
 {
     let a = reduction::bases::base_exponents(l, c, n, nums, dens);
     if a.refusal != 0 {
-        return Converted::Refused(a.refusal);
+        return no_scales(a.refusal);
     }
     let t = common::lessened(m, c);
     if t.refusal != 0 {
-        return Converted::Refused(t.refusal);
+        return no_scales(t.refusal);
     }
     let u = t.list;
     let b = reduction::bases::base_of(u, n, nums, dens);
     if b.refusal != 0 {
-        return Converted::Refused(b.refusal);
+        return no_scales(b.refusal);
     }
     let p = a.at;
     let q = b.at;
     if !reduction::bases::same_exponents(p, q) {
-        return Converted::Refused(UNITS);
+        return no_scales(UNITS);
     }
     let s = reduction::bases::scale_of(l, c);
-    rescaled(x, s, u)
+    rescaled(s, u)
 }
 
 // Between lists that differ: c has their common factors, inverted, and l and m are canonical forms. Both are merged over c.
-fn lessening(
-    x: f64,
-    l: Items,
-    m: Items,
-    c: Items,
-    n: usize,
-    nums: &[i32],
-    dens: &[u32],
-) -> Converted
-    ensures { λ r. ⌜ ((v : View) (fs gs cs : List Factorᵛ) → Lends v n (now (nums .entry)) (now (dens .entry)) → Resolved v l fs → Resolved v m gs → Resolved v c cs → r ≡ convertedOf (bind (lessen (v .order) fs cs) (λ own. spec.against (rulesBy v n) own (lessen (v .order) gs cs) x))) ⌝ }
+fn lessening(l: Items, m: Items, c: Items, n: usize, nums: &[i32], dens: &[u32]) -> Scales
+    ensures { λ r. ⌜ ((v : View) (fs gs cs : List Factorᵛ) → Lends v n (now (nums .entry)) (now (dens .entry)) → Resolved v l fs → Resolved v m gs → Resolved v c cs → (x : Float) → scaledBy r x ≡ convertedOf (bind (lessen (v .order) fs cs) (λ own. spec.against (rulesBy v n) own (lessen (v .order) gs cs) x))) ⌝ }
 {
     let o = common::lessened(l, c);
     if o.refusal != 0 {
-        return Converted::Refused(o.refusal);
+        return no_scales(o.refusal);
     }
     let own = o.list;
     let t = common::lessened(m, c);
@@ -114,62 +142,138 @@ fn lessening(
         // what the own base exponents are refused by comes first
         let a = reduction::bases::base_of(own, n, nums, dens);
         if a.refusal != 0 {
-            return Converted::Refused(a.refusal);
+            return no_scales(a.refusal);
         }
-        return Converted::Refused(t.refusal);
+        return no_scales(t.refusal);
     }
     let u = t.list;
-    apart(x, own, u, n, nums, dens)
+    apart(own, u, n, nums, dens)
 }
 
-// x of the list l in the list m, where there are n base rows. The own list over the common factors is merged too if `merging` says so.
+// ---- a conversion of any value
+
+// What a conversion between two lists makes of any value: the number of a refusal, which is 0 if there is none; or, of
+// equal lists, the value itself; or, but for a zero, the value by two scales.
+pub struct Rate {
+    pub scales: Scales,
+    pub refusal: u32,
+    pub keeps: bool,
+}
+
+pub fn no_rate(refusal: u32) -> Rate
+    ensures { λ r. ⌜ r ≡ unrated refusal ⌝ }
+{
+    let s = Scales {
+        own: 1.0,
+        target: 1.0,
+        refusal: 0,
+    };
+    Rate {
+        scales: s,
+        refusal: refusal,
+        keeps: false,
+    }
+}
+
+// Equal lists, or zeros alone.
+fn keeping() -> Rate
+    ensures { λ r. ⌜ r ≡ kept ⌝ }
+{
+    let s = Scales {
+        own: 1.0,
+        target: 1.0,
+        refusal: 0,
+    };
+    Rate {
+        scales: s,
+        refusal: 0,
+        keeps: true,
+    }
+}
+
+// Lists that differ.
+fn scaling(s: Scales) -> Rate
+    ensures { λ r. ⌜ r ≡ scalesAlone s ⌝ }
+{
+    Rate {
+        scales: s,
+        refusal: 0,
+        keeps: false,
+    }
+}
+
+// x converted.
+pub fn rated(r: Rate, x: f64) -> Converted
+    ensures { λ c. ⌜ c ≡ ratedBy r x ⌝ }
+{
+    if r.refusal != 0 {
+        return Converted::Refused(r.refusal);
+    }
+    if floats::is_zero(x) | r.keeps {
+        return Converted::Value(x);
+    }
+    let s = r.scales;
+    scaled(s, x)
+}
+
+// From the list l to the list m, where there are n base rows. If `zero` says so it is for zeros alone. The own list over
+// the common factors is merged too if `merging` says so.
 fn by_rule(
-    x: f64,
     l: Items,
     m: Items,
+    zero: bool,
     merging: bool,
     n: usize,
     nums: &[i32],
     dens: &[u32],
-) -> Converted
-    ensures { λ r. ⌜ ((v : View) (fs gs : List Factorᵛ) → Lends v n (now (nums .entry)) (now (dens .entry)) → Resolved v l fs → Resolved v m gs → r ≡ convertedOf (spec.convertBy (rulesBy v n) (readyIf (v .order) merging) fs gs x)) ⌝ }
+) -> Rate
+    ensures { λ r. ⌜ ((v : View) (fs gs : List Factorᵛ) → Lends v n (now (nums .entry)) (now (dens .entry)) → Resolved v l fs → Resolved v m gs → (x : Float) → (zero ≡ true → isZero x ≡ true) → ratedBy r x ≡ convertedOf (spec.convertBy (rulesBy v n) (readyIf (v .order) merging) fs gs x)) ⌝ }
 {
     let a = canonical::form::canonical(l);
     if a.refusal != 0 {
-        return Converted::Refused(a.refusal);
+        return no_rate(a.refusal);
     }
     let b = canonical::form::canonical(m);
     if b.refusal != 0 {
-        return Converted::Refused(b.refusal);
+        return no_rate(b.refusal);
     }
     let p = a.list;
     let q = b.list;
-    if floats::is_zero(x) | canonical::form::same(p, q) {
-        return Converted::Value(x);
+    if zero | canonical::form::same(p, q) {
+        return keeping();
     }
     let c = common::over_common(p, q);
     if merging {
         if c.len == 0 {
-            return apart(x, p, q, n, nums, dens);
+            return scaling(apart(p, q, n, nums, dens));
         }
-        return lessening(x, p, q, c, n, nums, dens);
+        return scaling(lessening(p, q, c, n, nums, dens));
     }
     if c.len == 0 {
-        return apart(x, l, q, n, nums, dens);
+        return scaling(apart(l, q, n, nums, dens));
     }
-    unlike(x, l, q, c, n, nums, dens)
+    scaling(unlike(l, q, c, n, nums, dens))
 }
 
 // x of the list l in the list m, where there are n base rows.
 pub fn convert(x: f64, l: Items, m: Items, n: usize, nums: &[i32], dens: &[u32]) -> Converted
     ensures { λ r. ⌜ ((v : View) (fs gs : List Factorᵛ) → Lends v n (now (nums .entry)) (now (dens .entry)) → Resolved v l fs → Resolved v m gs → r ≡ convertedOf (spec.convert (rulesBy v n) fs gs x)) ⌝ }
 {
-    by_rule(x, l, m, false, n, nums, dens)
+    let z = floats::is_zero(x);
+    rated(by_rule(l, m, z, false, n, nums, dens), x)
 }
 
 // The same with factors cancelled on both sides (02, order 3).
 pub fn cancelling(x: f64, l: Items, m: Items, n: usize, nums: &[i32], dens: &[u32]) -> Converted
     ensures { λ r. ⌜ ((v : View) (fs gs : List Factorᵛ) → Lends v n (now (nums .entry)) (now (dens .entry)) → Resolved v l fs → Resolved v m gs → r ≡ convertedOf (spec.cancelling (rulesBy v n) fs gs x)) ⌝ }
 {
-    by_rule(x, l, m, true, n, nums, dens)
+    let z = floats::is_zero(x);
+    rated(by_rule(l, m, z, true, n, nums, dens), x)
+}
+
+// That of any value: what is done for the lists is done once.
+pub fn cancelling_rate(l: Items, m: Items, n: usize, nums: &[i32], dens: &[u32]) -> Rate
+    ensures { λ r. ⌜ ((v : View) (fs gs : List Factorᵛ) → Lends v n (now (nums .entry)) (now (dens .entry)) → Resolved v l fs → Resolved v m gs → (x : Float) → ratedBy r x ≡ convertedOf (spec.cancelling (rulesBy v n) fs gs x)) ⌝ }
+{
+    by_rule(l, m, false, true, n, nums, dens)
 }

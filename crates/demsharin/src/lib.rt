@@ -1,5 +1,5 @@
-// The library as it ships: the calls over lent rows, passed on here, and as exported C functions over bytes, in `exports`
-// and `files`.
+// The library as it ships: the calls over lent rows, passed on here, and as exported C functions over bytes, in `exports`,
+// `files` and `knots`.
 pub use lentcalls::abs;
 pub use lentcalls::add;
 pub use lentcalls::canonical;
@@ -27,6 +27,9 @@ pub use lentcalls::subtract;
 pub use lentfiles::read_table;
 pub use lentfiles::salvage_table;
 pub use lentfiles::write_table;
+pub use lentknots::knot_vector;
+pub use lentknots::span_quotient;
 
 pub mod exports; // every call of 01, and 02's conversions, as C functions over bytes
 pub mod files; // the calls on table files as C functions over bytes
+pub mod knots; // the calls on knot vectors as C functions over bytes

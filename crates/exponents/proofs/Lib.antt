@@ -3,6 +3,7 @@ pub mod Divisors
 pub mod Ring
 pub mod Holds
 pub mod Following
+pub mod Steps
 pub mod Numbers
 pub mod Equality
 pub mod Size

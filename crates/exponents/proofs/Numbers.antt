@@ -3,7 +3,7 @@ use mathlib.Core.Path.{_≡_, refl, sym, ap, _∙_}
 use mathlib.Core.Bool.{Bool, true, false}
 use Prim.Native.Nat.{ℕ, _<_}
 use native.Mathlib.Omega.{arith}
-use Rattle.exponents.specs.Outcome.{Refusal, TABLE, SHAPE, UNKNOWN, ROOM, RANGE, UNITS, FRACTION, DIVZERO, ZERONEG, NONWHOLE, NAN, FORMAT, DENOMINATOR, number, Outcome, given, refused, unless, apply, refusalOf}
+use Rattle.exponents.specs.Outcome.{Refusal, TABLE, SHAPE, UNKNOWN, ROOM, RANGE, UNITS, FRACTION, DIVZERO, ZERONEG, NONWHOLE, NAN, FORMAT, DENOMINATOR, ORDER, MULTIPLE, ARGUMENT, number, Outcome, given, refused, unless, apply, refusalOf}
 use Rattle.exponents.specs.Fractions.{neg, faulty}
 use Rattle.exponents.specs.Held.{neg?, fractionOf}
 use Rattle.exponents.specs.declared.Exponent.{Exponent}
@@ -25,6 +25,9 @@ number-pos NONWHOLE = omega arith
 number-pos NAN = omega arith
 number-pos FORMAT = omega arith
 number-pos DENOMINATOR = omega arith
+number-pos ORDER = omega arith
+number-pos MULTIPLE = omega arith
+number-pos ARGUMENT = omega arith
 
 -- o answers
 pub record Answers {A : Type 0} (o : Outcome A) : Type 0 where

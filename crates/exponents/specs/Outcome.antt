@@ -3,7 +3,7 @@ use mathlib.Core.Bool.{Bool, true, false}
 use mathlib.Core.List.{List, [], _∷_}
 use Prim.Native.Nat.{ℕ}
 
--- 01, "The refusals"; the last two are 02's, orders 1 and 2
+-- 01, "The refusals"; the last five are 02's, orders 1, 2 and 4
 pub data Refusal : Type 0 where
   TABLE : Refusal
   SHAPE : Refusal
@@ -18,6 +18,9 @@ pub data Refusal : Type 0 where
   NAN : Refusal
   FORMAT : Refusal
   DENOMINATOR : Refusal
+  ORDER : Refusal
+  MULTIPLE : Refusal
+  ARGUMENT : Refusal
 
 -- 01, "The refusals", and 02: the numbers
 abbrev pub number : Refusal → ℕ
@@ -34,6 +37,9 @@ number NONWHOLE = 10
 number NAN = 11
 number FORMAT = 12
 number DENOMINATOR = 13
+number ORDER = 14
+number MULTIPLE = 15
+number ARGUMENT = 16
 
 pub data Outcome (A : Type 0) : Type 0 where
   given : A → Outcome A

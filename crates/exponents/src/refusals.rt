@@ -27,3 +27,9 @@ pub const NAN: u32 = 11;
 pub const FORMAT: u32 = 12;
 // an exponent's denominator, with its numerator in range, or a common multiple of denominators leaves its range (02, order 2)
 pub const DENOMINATOR: u32 = 13;
+// a knot vector's values fall, or one is a NaN or infinite (02, order 4)
+pub const ORDER: u32 = 14;
+// a knot's multiplicity is above degree plus one (02, order 4)
+pub const MULTIPLE: u32 = 15;
+// a bad count, degree, tolerance or span (02, order 4)
+pub const ARGUMENT: u32 = 16;

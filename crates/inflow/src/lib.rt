@@ -11,11 +11,12 @@ pub struct Held {
     pub live: bool,
 }
 
-// 262,144 zeros: more than the longest request, 3 arguments of 65,536 bytes.
-pub fn space() -> [u8; 262144]
-    ensures { λ r. ⌜ 262144 ≡ length r ⌝ }
+// 524,288 zeros: more than the longest request, 393,232 bytes (its code, Knots of 262,144 bytes and two arguments of
+// 65,536, each behind its length), and than its record with the longest answer behind it, 415,776 bytes.
+pub fn space() -> [u8; 524288]
+    ensures { λ r. ⌜ 524288 ≡ length r ⌝ }
 {
-    [0; 262144]
+    [0; 524288]
 }
 
 // Moves s[at..end] to the front of s; the bytes behind its new place stay.

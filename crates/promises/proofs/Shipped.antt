@@ -5,7 +5,7 @@ use Prim.Native.Nat.{ℕ, _≤_}
 use native.Mathlib.Omega.{arith}
 use borrow.Author.Tests.{le-ltb}
 use lib.ListN.{length, drop}
-use Rattle.exponents.specs.Outcome.{Refusal, TABLE, SHAPE, UNKNOWN, ROOM, RANGE, UNITS, FRACTION, DIVZERO, ZERONEG, NONWHOLE, NAN, FORMAT, DENOMINATOR, number, Outcome, given, refused, unless, apply, bind, refusalOf}
+use Rattle.exponents.specs.Outcome.{Refusal, TABLE, SHAPE, UNKNOWN, ROOM, RANGE, UNITS, FRACTION, DIVZERO, ZERONEG, NONWHOLE, NAN, FORMAT, DENOMINATOR, ORDER, MULTIPLE, ARGUMENT, number, Outcome, given, refused, unless, apply, bind, refusalOf}
 use Rattle.exponents.proofs.Holds.{Holds, held}
 use Rattle.units.specs.declared.Quantity.{Quantity}
 use Rattle.values.specs.Quantities.{answeredOf}
@@ -38,6 +38,9 @@ heard-refusal NONWHOLE a = refl
 heard-refusal NAN a = refl
 heard-refusal FORMAT a = refl
 heard-refusal DENOMINATOR a = refl
+heard-refusal ORDER a = refl
+heard-refusal MULTIPLE a = refl
+heard-refusal ARGUMENT a = refl
 
 -- ---- what a caller makes of the answer is the call's outcome
 

@@ -41,6 +41,12 @@ use Rattle.filepromises.proofs.Files.{file-brief}
 use Rattle.askfiles.specs.Calls as askfiles
 use Rattle.askconversions.specs.Calls as askconversions
 use Rattle.askfiles.proofs.Rowed.{Full, rows-sized}
+use Rattle.knots.specs.Calls as knots
+use Rattle.knots.specs.Calls.{knotsIn}
+use Rattle.askknots.specs.Records.{ruleFrom, spanFrom, vectorBytes}
+use Rattle.askknots.specs.Calls as askknots
+use Rattle.askknots.proofs.Stored.{vector-sized}
+use Rattle.askknots.proofs.Told.{few-runs}
 use Rattle.codeadded.specs.Calls as codeadded
 use Rattle.stream.specs.Calls.{calls, callOf}
 use Rattle.stream.specs.Stream.{longest, lent, answerTo, answered}
@@ -145,12 +151,14 @@ rows-bounded : (other : ℕ) (rs : List Row) → length rs ≤ 128 → Full rs �
 rows-bounded other rs h k = omega (arith, rows-sized other rs k)
 
 added-bounded : Each NoLonger codeadded.calls
-unfolding codeadded.calls askfiles.readTable askfiles.salvageTable askconversions.convertMerged
+unfolding codeadded.calls askfiles.readTable askfiles.salvageTable askconversions.convertMerged askknots.knotVector askknots.spanQuotient
 added-bounded =
     (λ t r _. file-bounded t (wordFrom r))
     and (λ f p _. holds-map (askfiles.rowsReply 0) (holds-eq (files.readTable (wordFrom p) f)) λ rs e. rows-bounded 0 rs (read-few (wordFrom p) f rs e .0) (read-full (wordFrom p) f rs e))
     and (λ f p _. held (rows-bounded (files.salvage (wordFrom p) f .1) (files.salvage (wordFrom p) f .0) (kept-few (wordFrom p) f .0) (kept-full (wordFrom p) f)))
     and (λ t a b. holds-imp (quantity-short (fitting.merged-fits (tableFrom t) (quantityFrom a) (read-fits a) (listFrom b))) (λ l h. omega (arith, h)))
+    and (λ t k u. holds-map vectorBytes (holds-eq (knots.knotVector (tableFrom t) (knotsIn k) (ruleFrom u))) λ rs e. omega (arith, vector-sized rs, few-runs (tableFrom t) k (ruleFrom u) rs e))
+    and (λ t k a. holds-imp (sized valueBytes 8 (omega arith) value-sized (knots.spanQuotient (tableFrom t) (knotsIn k) (spanFrom a))) (λ l h. omega (arith, h)))
     and done
 
 module _ {P : List ℕ → Type 0} where

@@ -3,7 +3,7 @@ use mathlib.Core.List.{List}
 use Prim.Native.Nat.{ℕ}
 use lib.Dec.{eqb}
 use Rattle.exponents.specs.Words.{pick}
-use Rattle.exponents.specs.Outcome.{Refusal, TABLE, SHAPE, UNKNOWN, ROOM, RANGE, UNITS, FRACTION, DIVZERO, ZERONEG, NONWHOLE, NAN, FORMAT, DENOMINATOR, number, Outcome, given, refused}
+use Rattle.exponents.specs.Outcome.{Refusal, TABLE, SHAPE, UNKNOWN, ROOM, RANGE, UNITS, FRACTION, DIVZERO, ZERONEG, NONWHOLE, NAN, FORMAT, DENOMINATOR, ORDER, MULTIPLE, ARGUMENT, number, Outcome, given, refused}
 use Rattle.units.specs.declared.Quantity.{Quantity}
 use Rattle.values.specs.declared.answers.Answer.{Answer}
 use Rattle.wire.specs.Records.{quantityAt}
@@ -14,7 +14,8 @@ named n =
     pick (eqb n (number TABLE)) TABLE (pick (eqb n (number SHAPE)) SHAPE (pick (eqb n (number UNKNOWN)) UNKNOWN (pick (eqb n (number ROOM)) ROOM
     (pick (eqb n (number RANGE)) RANGE (pick (eqb n (number UNITS)) UNITS (pick (eqb n (number FRACTION)) FRACTION (pick (eqb n (number DIVZERO)) DIVZERO
     (pick (eqb n (number ZERONEG)) ZERONEG (pick (eqb n (number NONWHOLE)) NONWHOLE (pick (eqb n (number NAN)) NAN
-    (pick (eqb n (number FORMAT)) FORMAT DENOMINATOR)))))))))))
+    (pick (eqb n (number FORMAT)) FORMAT (pick (eqb n (number DENOMINATOR)) DENOMINATOR
+    (pick (eqb n (number ORDER)) ORDER (pick (eqb n (number MULTIPLE)) MULTIPLE ARGUMENT))))))))))))))
 
 -- an answer where the number is 0
 unfoldable pub heard : {A : Type 0} → ℕ → A → Outcome A

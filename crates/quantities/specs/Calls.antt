@@ -30,6 +30,10 @@ module _ (t : Rows) where
   unfoldable pub convertMerged : Quantity → Factors → Outcome Quantity
   convertMerged = convertWith (λ R. cancelling R)
 
+  -- its value alone
+  unfoldable pub mergedValue : Quantity → Factors → Outcome Float
+  mergedValue q m = apply (λ p. p .value) (convertMerged q m)
+
   -- ---- comparison: the second is converted to the first's list
 
   unfoldable pub equal : Quantity → Quantity → Outcome Bool

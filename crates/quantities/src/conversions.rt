@@ -5,13 +5,15 @@ ghost use lib.Ieee.{Float};
 ghost use Rattle.exponents.specs.Outcome.{Outcome, apply};
 ghost use Rattle.units.specs.declared.Factor.{Factor as Factorᵛ};
 ghost use Rattle.units.specs.declared.Factors.{Factors as Factorsᵛ};
+ghost use Rattle.units.specs.declared.Quantity.{Quantity as Quantityᵛ};
 ghost use Rattle.units.specs.declared.Rows.{Rows as Rowsᵛ};
 ghost use Rattle.tables.specs.Held.{View, Resolved};
 ghost use Rattle.lists.specs.Held.{Opens};
-ghost use Rattle.conversion.specs.Held.{convertedOf};
+ghost use Rattle.conversion.specs.Held.{convertedOf, ratedBy};
 ghost use Rattle.values.specs.Quantities.{fresh, answeredOf};
 ghost use Rattle.quantities.specs.Calls as spec;
 use conversion::convert::Converted;
+use conversion::convert::Rate;
 use lists::opening::Opened;
 use tables::Items;
 use units::Factors;
@@ -69,6 +71,19 @@ pub fn convert_merged_over(o: Opened, q: Quantity, nums: &[i32], dens: &[u32]) -
     let s = o.slots;
     let c = conversion::convert::cancelling(q.value, a, b, s.len, nums, dens);
     in_target(c, b)
+}
+
+// Over the opened table and lists, of any value: what is done for the lists is done once.
+pub fn merged_rate_over(o: Opened, nums: &[i32], dens: &[u32]) -> Rate
+    ensures { λ r. ⌜ ((rows : Rowsᵛ) (q : Quantityᵛ) (target : Factorsᵛ) → Opens rows (q .unit) target o (now (nums .entry)) (now (dens .entry)) → ratedBy r (q .value) ≡ convertedOf (spec.mergedValue rows q target)) ⌝ }
+{
+    if o.refusal != 0 {
+        return conversion::convert::no_rate(o.refusal);
+    }
+    let a = o.a;
+    let b = o.b;
+    let s = o.slots;
+    conversion::convert::cancelling_rate(a, b, s.len, nums, dens)
 }
 
 pub fn convert_merged(rows: Rows, q: Quantity, target: Factors) -> Answer

@@ -137,7 +137,7 @@ pub fn order(c: Compared, out: &mut [u8]) -> Reply
     }
 }
 
-fn value(x: f64, out: &mut [u8]) -> Reply
+pub fn value(x: f64, out: &mut [u8]) -> Reply
     ensures { λ r. ⌜ Replied (now (out .entry)) (given (valueBytes x)) r (now (out .exit)) ⌝ }
 {
     if out.len() < 8 {

@@ -1,5 +1,6 @@
 -- The stream of requests and answers (the byte form, "The stream of `calls`").
 use mathlib.Core.Path.{_≡_}
+use mathlib.Core.Bool.{_&&_, _||_}
 use mathlib.Core.List.{List, [], _++_}
 use Prim.Native.Nat.{ℕ, zero, suc, _+_, _-_, _≤_, _<_}
 use lib.Dec.{eqb, ltb}
@@ -24,18 +25,22 @@ short = record { kind = 1; to = 0 }
 abbrev pub bad : Frame
 bad = record { kind = 2; to = 0 }
 
--- so many arguments from place i on: none is longer than 65,536 bytes
-unfoldable pub arguments : ℕ → List ℕ → ℕ → Frame
-arguments zero s i = whole i
-arguments (suc k) s i =
+-- the most bytes that the k-th argument of a call may have, counted from 0: 262,144 for Knots, behind the table in the calls 28 and 29 (02, order 4), and 65,536 for every other one
+unfoldable pub most : ℕ → ℕ → ℕ
+most code k = pick ((eqb code 28 || eqb code 29) && eqb k 1) 262144 65536
+
+-- so many arguments of a call from place i on, the first of them its k-th: none is longer than it may be
+unfoldable pub arguments : ℕ → ℕ → ℕ → List ℕ → ℕ → Frame
+arguments code k zero s i = whole i
+arguments code k (suc n) s i =
     pick (ltb (length s - i) 4) short
-    (pick (ltb 65536 (le 4 s i)) bad
+    (pick (ltb (most code k) (le 4 s i)) bad
     (pick (ltb (length s - (i + 4)) (le 4 s i)) short
-    (arguments k s (i + 4 + le 4 s i))))
+    (arguments code (k + 1) n s (i + 4 + le 4 s i))))
 
 -- the request whose code stands at place i: an unknown code, which has no arguments, ends the stream
 unfoldable pub framed : ℕ → List ℕ → ℕ → Frame
-framed code s i = pick (eqb (callOf code .arity) 0) bad (arguments (callOf code .arity) s i)
+framed code s i = pick (eqb (callOf code .arity) 0) bad (arguments code 0 (callOf code .arity) s i)
 
 -- the k-th argument in the bytes behind a code
 unfoldable pub part : ℕ → List ℕ → List ℕ

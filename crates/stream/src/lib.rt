@@ -64,6 +64,19 @@ fn arity(code: u32) -> u32
     codeadded::arity(code)
 }
 
+// The most bytes that the k-th argument of the call with this code may have, counted from 0: 262,144 for Knots, which
+// the calls 28 and 29 take behind the table, so that more than the 512 allowed, of 336 bytes each, get their refusal;
+// 65,536 for every other one, so that 129 rows and 33 candidates do.
+fn most(code: u32, k: u32) -> usize
+    ensures { λ r. ⌜ r ≡ spec.most code k ⌝ }
+{
+    if ((code == 28) | (code == 29)) & (k == 1) {
+        262144
+    } else {
+        65536
+    }
+}
+
 fn cut(kind: u32) -> Frame
     ensures { λ r. ⌜ (r .kind ≡ kind) × (r .to ≡ 0) ⌝ }
 {
@@ -86,7 +99,7 @@ pub fn framed(code: u32, s: &[u8], from: usize) -> Frame
             return cut(SHORT);
         }
         let m = read_u32(s, at) as usize;
-        if 65536 < m {
+        if most(code, k) < m {
             return cut(BAD);
         }
         at += 4;

@@ -5,3 +5,4 @@ pub mod Form
 pub mod Round
 pub mod Back
 pub mod Unread
+pub mod Alike

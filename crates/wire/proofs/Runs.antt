@@ -8,7 +8,7 @@ use native.Mathlib.Numerals.{add-one}
 use native.Mathlib.Omega.{arith}
 use borrow.Author.Tests.{leb-true}
 use lib.Dec.{leb, eqb}
-use lib.ListN.{length, set, length-append, length-replicate}
+use lib.ListN.{length, getD, set, length-append, length-replicate}
 use lib.Seq.{set-append-seam}
 use Rattle.exponents.specs.Words.{pick}
 use Rattle.wire.specs.Bytes.{runAt, padTo, countOf}
@@ -28,6 +28,17 @@ module _ {A : Type 0} (read : List ℕ → ℕ → A) (size : ℕ) where
   unfolding runAt
   length-runAt zero s i = refl
   length-runAt (suc n) s i = ap suc (length-runAt n s (i + size))
+
+  -- the record at a place
+  pub getD-runAt : (n : ℕ) (s : List ℕ) (i k : ℕ) (z : A) → k < n → getD (runAt read size n s i) k z ≡ read s (i + k * size)
+  unfolding runAt
+  getD-runAt zero s i k z h = absurd (omega arith)
+  getD-runAt (suc n) s i zero z h =
+      let e : i ≡ i + 0 * size = omega arith in
+      ap (read s) e
+  getD-runAt (suc n) s i (suc k) z h =
+      let e : i + size + k * size ≡ i + suc k * size = omega arith in
+      getD-runAt n s (i + size) k z (omega arith) ∙ ap (read s) e
 
 pub pad-push : {A : Type 0} (none : A) (m : ℕ) (l : List A) (a : A) → length l < m → set (padTo none m l) (length l) a ≡ padTo none m (l ++ (a ∷ []))
 unfolding padTo
@@ -77,3 +88,8 @@ unfolding countOf manyIn
 records-inside size m n i p h =
     let c = counted m (manyIn size m n) (leb (manyIn size m n) m) refl i h in
     inside size m n (eqb (n % size) 0) i p (c .0) (c .1)
+
+-- no more than the most, so all of them
+pub many-inside : (size m n i : ℕ) → 0 < size → manyIn size m n ≤ m → i < manyIn size m n → i * size + size ≤ n
+unfolding manyIn
+many-inside size m n i p few h = inside size m n (eqb (n % size) 0) i p h few

@@ -28,7 +28,7 @@ pub fn exponent(s: &[u8]) -> Exponent
     Exponent { num: 0, den: 0 }
 }
 
-fn bad_list() -> Factors
+pub fn bad_list() -> Factors
     ensures { λ r. ⌜ r ≡ badList ⌝ }
 {
     let none = units::lists::no_factor();

@@ -1,5 +1,6 @@
 // Records from bytes: what is of no kind reads as a record that breaks its rule, and places past a length are not read.
 ghost use mathlib.Core.Path.{_≡_};
+ghost use mathlib.Core.Bool.{true};
 ghost use Prim.Native.Nat.{_+_, _≤_};
 ghost use lib.ListN.{length};
 ghost use Rattle.wire.specs.Bytes.{countOf};
@@ -107,6 +108,28 @@ pub fn read_list(s: &[u8], at: usize) -> Factors
     Factors { at: a, len }
 }
 
+// Whether the lists at two places have the same numbers within their length, five to a factor, and so read alike.
+pub fn same_list(s: &[u8], i: usize, j: usize) -> bool
+    requires { ⌜ (i + 324 ≤ length (now s)) × (j + 324 ≤ length (now s)) ⌝ }
+    ensures { λ r. ⌜ (r ≡ true → listAt (now (s .entry)) i ≡ listAt (now (s .entry)) j) ⌝ }
+{
+    let len = read_u32(s, i);
+    if len != read_u32(s, j) {
+        return false;
+    }
+    let n = count(16, len as usize) * 5;
+    let a = i + 4;
+    let b = j + 4;
+    let mut k = 0;
+    while k < n {
+        if read_u32(s, a + k * 4) != read_u32(s, b + k * 4) {
+            return false;
+        }
+        k += 1;
+    }
+    true
+}
+
 pub fn read_quantity(s: &[u8], at: usize) -> Quantity
     requires { ⌜ at + 336 ≤ length (now s) ⌝ }
     ensures { λ r. ⌜ r ≡ quantityAt (now (s .entry)) at ⌝ }
@@ -119,6 +142,14 @@ pub fn read_quantity(s: &[u8], at: usize) -> Quantity
         value,
         mark: m != 0,
     }
+}
+
+// The value of a quantity alone.
+pub fn read_value(s: &[u8], at: usize) -> f64
+    requires { ⌜ at + 8 ≤ length (now s) ⌝ }
+    ensures { λ r. ⌜ r ≡ quantityAt (now (s .entry)) at .value ⌝ }
+{
+    floats::of_bits(read_u64(s, at))
 }
 
 fn kind_of(kind: u16, x: f64) -> Kind

@@ -1,7 +1,9 @@
 //! Arguments to bytes, and answers from bytes, for [`exports`](crate::exports). Numbers are little-endian.
 use std::iter::repeat;
 
-use crate::records::{Candidate, Exponent, Factor, Kind, List, Multiple, Prefix, Quantity, Reduced, Row};
+use crate::records::{
+    Candidate, Distinct, Exponent, Factor, Kind, KnotRule, KnotVector, List, Multiple, Prefix, Quantity, Reduced, Row,
+};
 
 /// Bytes of an exponent: numerator, denominator.
 pub const EXPONENT_BYTES: usize = 8;
@@ -25,7 +27,7 @@ pub const REDUCED_BYTES: usize = 332;
 pub const NUMBER_BYTES: usize = 4;
 /// Bytes of an answer that is a value.
 pub const VALUE_BYTES: usize = 8;
-/// Bytes before a file or before rows: how many there are, and the byte where a salvage stopped.
+/// Bytes before a file, rows or distinct values: how many there are, and the byte where a salvage stopped.
 pub const HEAD_BYTES: usize = 8;
 /// Bytes of the longest file.
 pub const FILE_BYTES: usize = 15_890;
@@ -33,6 +35,14 @@ pub const FILE_BYTES: usize = 15_890;
 pub const WRITTEN_BYTES: usize = HEAD_BYTES + FILE_BYTES;
 /// Bytes that hold the answer of every read and of every salvage: the head, 128 rows.
 pub const ROWS_BYTES: usize = HEAD_BYTES + 128 * ROW_BYTES;
+/// Bytes of a rule for knots: the tolerance's bits, the degree, the unit.
+pub const RULE_BYTES: usize = 336;
+/// Bytes of a rule for a span: that for its knots, x's bits, the place of the left knot, four bytes never read.
+pub const SPAN_RULE_BYTES: usize = 352;
+/// Bytes of a distinct value: its bits, its multiplicity, four bytes of zero.
+pub const DISTINCT_BYTES: usize = 16;
+/// Bytes that hold every knot vector: the head, 512 distinct values.
+pub const VECTOR_BYTES: usize = HEAD_BYTES + 512 * DISTINCT_BYTES;
 
 const BLANK: Factor = Factor { row: 0, prefix: Prefix::NONE, exponent: Exponent::whole(0) };
 
@@ -128,7 +138,7 @@ pub fn read_rows(bytes: &[u8]) -> Vec<Row> {
     bytes.chunks_exact(ROW_BYTES).map(read_row).collect()
 }
 
-/// The two numbers before a file or before rows.
+/// The two numbers before a file, rows or distinct values.
 pub fn read_head(bytes: &[u8]) -> (usize, usize) {
     (read_u32(bytes, 0) as usize, read_u32(bytes, 4) as usize)
 }
@@ -140,6 +150,33 @@ pub fn candidates(all: &[Candidate]) -> Vec<u8> {
         place[..2].copy_from_slice(&candidate.rank.to_le_bytes());
         put_list(&mut place[4..], &candidate.unit);
     }
+    out
+}
+
+/// Knots as an argument; any number of them.
+pub fn knots(all: &[Quantity]) -> Vec<u8> {
+    all.iter().map(quantity).collect::<Vec<_>>().concat()
+}
+
+fn put_rule(out: &mut [u8], rule: &KnotRule) {
+    out[..8].copy_from_slice(&rule.tolerance.to_bits().to_le_bytes());
+    out[8..12].copy_from_slice(&rule.degree.to_le_bytes());
+    put_list(&mut out[12..], &rule.unit);
+}
+
+/// A rule for knots as an argument.
+pub fn rule(rule: &KnotRule) -> [u8; RULE_BYTES] {
+    let mut out = [0; RULE_BYTES];
+    put_rule(&mut out, rule);
+    out
+}
+
+/// A rule for a span as an argument. A place that 32 bits don't hold must stay too high.
+pub fn span_rule(rule: &KnotRule, place: usize, x: f64) -> [u8; SPAN_RULE_BYTES] {
+    let mut out = [0; SPAN_RULE_BYTES];
+    put_rule(&mut out, rule);
+    out[336..344].copy_from_slice(&x.to_bits().to_le_bytes());
+    out[344..348].copy_from_slice(&u32::try_from(place).unwrap_or(u32::MAX).to_le_bytes());
     out
 }
 
@@ -156,7 +193,7 @@ fn read_value_in(bytes: &[u8]) -> f64 {
     f64::from_bits(u64::from_le_bytes(bytes[..VALUE_BYTES].try_into().expect("eight bytes")))
 }
 
-/// A prefix's factor.
+/// A prefix's factor, or a span's quotient.
 pub fn read_value(bytes: &[u8; VALUE_BYTES]) -> f64 {
     read_value_in(bytes)
 }
@@ -195,4 +232,15 @@ pub fn read_multiple(bytes: &[u8; MULTIPLE_BYTES]) -> Multiple {
 /// A reduced list.
 pub fn read_reduced(bytes: &[u8; REDUCED_BYTES]) -> Reduced {
     Reduced { scale: read_value_in(bytes), unit: read_list_in(&bytes[8..]) }
+}
+
+fn read_distinct(bytes: &[u8]) -> Distinct {
+    Distinct { value: read_value_in(bytes), multiplicity: read_u32(bytes, 8) }
+}
+
+/// A knot vector.
+pub fn read_vector(bytes: &[u8; VECTOR_BYTES]) -> KnotVector {
+    let (number, _) = read_head(bytes);
+    let distinct = bytes[HEAD_BYTES..].chunks_exact(DISTINCT_BYTES).take(number).map(read_distinct).collect();
+    KnotVector { distinct }
 }

@@ -10,7 +10,8 @@ use crate::refusal::Refusal;
 ///
 /// Rows that break a rule are no fault yet: every call over them answers the refusal. That comes first, then the
 /// refusals of the arguments from left to right (SHAPE, UNKNOWN), then those named with the call. A row itself may give
-/// TABLE, SHAPE, RANGE, DENOMINATOR and FRACTION.
+/// TABLE, SHAPE, RANGE, DENOMINATOR and FRACTION. Only ARGUMENT about the number of knots, the degree or the tolerance
+/// comes before it.
 ///
 /// RANGE is said of an exponent's numerator, DENOMINATOR of its denominator: whichever leaves its range first, the
 /// numerator if both do in one step.
@@ -24,7 +25,7 @@ pub(crate) fn answered<const N: usize>(call: impl FnOnce(&mut [u8]) -> u32) -> R
     let mut out = [0; N];
     match call(&mut out) {
         0 => Ok(out),
-        number => Err(Refusal::of(number).expect("the library has thirteen refusals")),
+        number => Err(Refusal::of(number).expect("the library has sixteen refusals")),
     }
 }
 

@@ -51,4 +51,6 @@ exported! {
     demsharin_read_table as read_table(file);
     demsharin_salvage_table as salvage_table(file);
     demsharin_convert_merged as convert_merged(table, quantity, target);
+    demsharin_knot_vector as knot_vector(table, knots, rule);
+    demsharin_span_quotient as span_quotient(table, knots, rule);
 }

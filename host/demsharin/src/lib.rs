@@ -10,12 +10,16 @@
 //! let length = table.convert_to(&Quantity::new(10.0, Factor::of(1)), &Factor::of(0).into())?;
 //! ```
 //!
+//! Knots in their senders' units become one [`KnotVector`] by [`Table::knot_vector`]: values in one unit, merged within
+//! a tolerance, with their multiplicities.
+//!
 //! All calls are thread-safe and keep nothing between them. Each needs less than 512 KiB of stack.
 
 pub mod bytes;
 mod calls;
 pub mod exports;
 mod files;
+mod knots;
 mod records;
 mod refusal;
 #[cfg(test)]
@@ -23,5 +27,7 @@ mod tests;
 
 pub use calls::{Table, prefix_factor};
 pub use files::{Salvaged, salvage};
-pub use records::{Candidate, Exponent, Factor, Kind, List, Multiple, Prefix, Quantity, Reduced, Row};
+pub use records::{
+    Candidate, Distinct, Exponent, Factor, Kind, KnotRule, KnotVector, List, Multiple, Prefix, Quantity, Reduced, Row,
+};
 pub use refusal::Refusal;

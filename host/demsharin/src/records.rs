@@ -171,3 +171,55 @@ pub struct Reduced {
     /// Base units in the order of their ranks.
     pub unit: List,
 }
+
+/// How knots become a knot vector.
+#[derive(Debug, Clone, PartialEq)]
+pub struct KnotRule {
+    /// The unit that every knot is brought to, by [`Table::convert_merged`](crate::Table::convert_merged).
+    pub unit: List,
+    /// How far above the first of its run a knot may lie, in that unit: finite, and not below zero. 0 merges equal
+    /// values alone.
+    pub tolerance: f64,
+    /// The spline's degree, 1 to 9. A knot may be there once more than that.
+    pub degree: u32,
+}
+
+impl KnotRule {
+    /// A rule for knots in this unit.
+    pub fn new(unit: impl Into<List>, tolerance: f64, degree: u32) -> KnotRule {
+        KnotRule { unit: unit.into(), tolerance, degree }
+    }
+}
+
+/// A value of a knot vector.
+#[derive(Debug, Clone, Copy, PartialEq)]
+pub struct Distinct {
+    /// That of the first knot of the run, in the rule's unit.
+    pub value: f64,
+    /// How many knots the run has.
+    pub multiplicity: u32,
+}
+
+/// Knots in one unit, those that lie together merged.
+#[derive(Debug, Clone, PartialEq)]
+pub struct KnotVector {
+    /// The runs from the lowest up: values rise by more than the tolerance, multiplicities add up to the knots given.
+    pub distinct: Vec<Distinct>,
+}
+
+impl KnotVector {
+    /// The distinct values.
+    pub fn values(&self) -> Vec<f64> {
+        self.distinct.iter().map(|run| run.value).collect()
+    }
+
+    /// How many knots each of them stands for.
+    pub fn multiplicities(&self) -> Vec<u32> {
+        self.distinct.iter().map(|run| run.multiplicity).collect()
+    }
+
+    /// The full list, as a spline takes it: at the place of each knot given the value of its run.
+    pub fn knots(&self) -> Vec<f64> {
+        self.distinct.iter().flat_map(|run| std::iter::repeat_n(run.value, run.multiplicity as usize)).collect()
+    }
+}

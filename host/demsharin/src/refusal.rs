@@ -1,4 +1,4 @@
-// The thirteen refusals, with the numbers that the library has for them.
+// The sixteen refusals, with the numbers that the library has for them.
 use std::fmt;
 
 /// Why a call has no answer.
@@ -31,11 +31,18 @@ pub enum Refusal {
     Format = 12,
     /// An exponent's denominator, or the common multiple of a row's denominators, leaves its range: a root too odd.
     Denominator = 13,
+    /// Knots fall, or one of them is a NaN or infinite in the unit asked for.
+    Order = 14,
+    /// A knot is there more often than the degree plus one.
+    Multiple = 15,
+    /// No knot or over 512, a degree other than 1 to 9, a tolerance that is a NaN, infinite or below zero; or, after
+    /// every other refusal, a span that isn't there.
+    Argument = 16,
 }
 
 impl Refusal {
     /// All of them, in the order of their numbers.
-    pub const ALL: [Refusal; 13] = [
+    pub const ALL: [Refusal; 16] = [
         Refusal::Table,
         Refusal::Shape,
         Refusal::Unknown,
@@ -49,14 +56,17 @@ impl Refusal {
         Refusal::Nan,
         Refusal::Format,
         Refusal::Denominator,
+        Refusal::Order,
+        Refusal::Multiple,
+        Refusal::Argument,
     ];
 
-    /// The refusal's number, 1 to 13.
+    /// The refusal's number, 1 to 16.
     pub const fn number(self) -> u32 {
         self as u32
     }
 
-    /// The refusal of a number; 0 and numbers above 13 are none.
+    /// The refusal of a number; 0 and numbers above 16 are none.
     pub fn of(number: u32) -> Option<Refusal> {
         Refusal::ALL.get((number as usize).wrapping_sub(1)).copied()
     }
@@ -77,6 +87,9 @@ impl Refusal {
             Refusal::Nan => "NAN",
             Refusal::Format => "FORMAT",
             Refusal::Denominator => "DENOMINATOR",
+            Refusal::Order => "ORDER",
+            Refusal::Multiple => "MULTIPLE",
+            Refusal::Argument => "ARGUMENT",
         }
     }
 }

@@ -1,5 +1,5 @@
 // Faults put into a request that was in order, so that every refusal is met.
-use wire::records::{Exponent, Factor, List};
+use wire::records::{Exponent, Factor, List, Quantity, Row, Rule};
 
 use crate::files;
 use crate::random::Random;
@@ -8,7 +8,7 @@ use crate::requests::{Draft, Part};
 /// One fault in the table or in one of the parts.
 pub fn put(random: &mut Random, draft: &mut Draft) {
     if random.percent(35) && draft.has_table() {
-        table_fault(random, draft);
+        table_fault(random, &mut draft.made.rows);
         return;
     }
     let at = random.below(draft.parts.len());
@@ -19,6 +19,10 @@ pub fn put(random: &mut Random, draft: &mut Draft) {
         Part::Exponent(e) => *e = bad_exponent(random),
         Part::List(l) => list_fault(random, l),
         Part::Quantity(q) => list_fault(random, &mut q.unit),
+        Part::Knots(knots) => knot_faults(random, knots),
+        Part::Rule(rule) => rule_fault(random, rule),
+        Part::SpanRule(span) if random.percent(25) => span.place = random.pick(&[511, 512, u32::MAX]),
+        Part::SpanRule(span) => rule_fault(random, &mut span.rule),
         Part::Candidates(all) => match all.len() {
             0 | 1 => {}
             n if random.percent(50) => all.swap(0, n - 1),
@@ -35,8 +39,25 @@ fn bad_exponent(random: &mut Random) -> Exponent {
     Exponent { num, den }
 }
 
-fn table_fault(random: &mut Random, draft: &mut Draft) {
-    let rows = &mut draft.made.rows;
+/// One knot or two.
+fn knot_faults(random: &mut Random, knots: &mut [Quantity]) {
+    for _ in 0..1 + random.below(2) {
+        if !knots.is_empty() {
+            let at = random.below(knots.len());
+            list_fault(random, &mut knots[at].unit);
+        }
+    }
+}
+
+fn rule_fault(random: &mut Random, rule: &mut Rule) {
+    match random.below(3) {
+        0 => rule.degree = random.pick(&[0, 10, u32::MAX]),
+        1 => rule.tolerance = random.pick(&[f64::NAN, f64::INFINITY, -1.0, -5e-324]).to_bits(),
+        _ => list_fault(random, &mut rule.target),
+    }
+}
+
+pub fn table_fault(random: &mut Random, rows: &mut [Row]) {
     let at = random.below(rows.len());
     let row = &mut rows[at];
     match random.below(9) {
@@ -55,7 +76,7 @@ fn table_fault(random: &mut Random, draft: &mut Draft) {
     }
 }
 
-fn list_fault(random: &mut Random, list: &mut List) {
+pub fn list_fault(random: &mut Random, list: &mut List) {
     let at = random.below(list.factors.len().max(1));
     if list.factors.is_empty() || random.percent(10) {
         list.len = 17;

@@ -4,12 +4,13 @@ use scope::fractions::{Fraction, gcd};
 use scope::tables::Known;
 use scope::{calls, places};
 use wire::calls::{CONVERT_MERGED, CONVERT_TO};
-use wire::records::{Candidate, Exponent, Factor, LIST_PLACES, List, METRIC, Prefix, Quantity, Row};
+use wire::records::{Candidate, Exponent, Factor, LIST_PLACES, List, METRIC, Prefix, Quantity, Row, Rule};
 use wire::refusals::{DENOMINATOR, RANGE};
 use wire::stream::Request;
 
 use crate::cancelling;
 use crate::files;
+use crate::knots::Vector;
 use crate::lists;
 use crate::random::Random;
 use crate::requests::{self, Draft, Part, quantity_of};
@@ -40,7 +41,7 @@ pub fn draft(random: &mut Random, code: u32) -> Draft {
     let (tries, late) = random.pick(&[(1, false), (6, false), (20, true)]);
     let mut taken = drafted(random, code);
     for _ in 1..tries {
-        if refused(&taken.request(), late && matches!(code, 9 | 14 | 17 | 18 | 20..=22 | 27)) {
+        if refused(&taken.request(), late && matches!(code, 9 | 14 | 17 | 18 | 20..=22 | 27..=29)) {
             break;
         }
         taken = drafted(random, code);
@@ -69,7 +70,7 @@ fn drafted(random: &mut Random, code: u32) -> Draft {
     if code == 1 {
         return requests::draft(random, code, 3);
     }
-    let mut made = if code == CONVERT_MERGED && random.percent(50) { over_one(random) } else { table(random) };
+    let mut made = if code >= CONVERT_MERGED && random.percent(50) { over_one(random) } else { table(random) };
     let mut parts = parts(random, &made, code);
     let bare = matches!(code, 2 | 3 | 12 | 13 | 15 | 16 | 23..=26);
     if random.percent(if bare { 60 } else { 12 }) {
@@ -110,6 +111,7 @@ fn parts(random: &mut Random, made: &Made, code: u32) -> Vec<Part> {
         }
         24..=26 => file_parts(random, made, code).expect("a call on files"),
         27 => cancelling(random, made),
+        28 | 29 => knots(random, made, code),
         _ => vec![Part::Quantity(quantity_for(random, made, code))],
     }
 }
@@ -353,6 +355,28 @@ fn cancelling(random: &mut Random, made: &Made) -> Vec<Part> {
     };
     let (own, target) = cancelling::both(random, made, unit, coefficient);
     vec![Part::Quantity(quantity_of(random, own)), Part::List(target)]
+}
+
+/// Few knots, the first one's list and the target as in a conversion; others in either, in other words or of their own.
+fn knots(random: &mut Random, made: &Made, code: u32) -> Vec<Part> {
+    let pair = cancelling(random, made);
+    let [Part::Quantity(first), Part::List(target)] = &pair[..] else { unreachable!("a quantity and a list") };
+    let mut all = vec![Quantity { bits: 1.0f64.to_bits(), ..first.clone() }];
+    for value in 0..random.below(4) {
+        let unit = match random.below(4) {
+            0 => first.unit.clone(),
+            1 => target.clone(),
+            2 => rewritten(random, made, target),
+            _ => list(random, made),
+        };
+        all.push(Quantity::of(value as f64 + 1.0, unit));
+    }
+    if random.percent(40) {
+        random.shuffle(&mut all);
+    }
+    let rule = Rule { tolerance: random.pick(&[0.0f64, 0.5]).to_bits(), degree: 3, target: target.clone() };
+    let vector = Vector { made: made.clone(), knots: all, rule };
+    requests::of_knots(random, code, vector).parts
 }
 
 /// Two lists with exponents of their own at each base row, or one a power of the other.

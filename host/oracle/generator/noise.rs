@@ -1,7 +1,7 @@
 // Requests of right framing whose arguments are random bytes: of the right length, beside it, or of any.
-use wire::bytes::{CANDIDATE, EXPONENT, LIST, PREFIX, QUANTITY, ROW};
+use wire::bytes::{CANDIDATE, EXPONENT, LIST, PREFIX, QUANTITY, ROW, RULE, SPAN_RULE};
 use wire::calls::{self, Kind};
-use wire::stream::{ARGUMENT_LIMIT, Request};
+use wire::stream::Request;
 
 use crate::random::Random;
 
@@ -18,15 +18,15 @@ pub fn filled(random: &mut Random, mut request: Request) -> Request {
 }
 
 fn argument(random: &mut Random, kind: Kind) -> Vec<u8> {
-    let right = right_length(random, kind);
+    let (right, limit) = (right_length(random, kind), calls::limit(kind) as usize);
     let length = match random.weighted(&[60, 15, 10, 13, 2]) {
         0 => right,
         1 => right.saturating_add_signed(random.within(-9, 9) as isize),
         2 => random.pick(&[0, 1, PREFIX, LIST, CANDIDATE, QUANTITY, ROW, 2 * ROW]),
         3 => random.below(5000),
-        _ => ARGUMENT_LIMIT as usize - random.pick(&[0, 0, 1, 64]),
+        _ => limit - random.pick(&[0, 0, 1, 64]),
     };
-    let mut bytes = bytes(random, length.min(ARGUMENT_LIMIT as usize));
+    let mut bytes = bytes(random, length.min(limit));
     if kind == Kind::Table && random.percent(60) {
         spread_ranks(&mut bytes);
     }
@@ -45,6 +45,12 @@ fn right_length(random: &mut Random, kind: Kind) -> usize {
         Kind::List => LIST,
         Kind::File => random.below(300),
         Kind::Lent => 4,
+        Kind::Knots => {
+            let few = random.below(12);
+            QUANTITY * random.pick(&[0, 1, 2, 3, few, few, few, few, few, 511, 512, 513])
+        }
+        Kind::Rule => RULE,
+        Kind::SpanRule => SPAN_RULE,
         _ => QUANTITY,
     }
 }

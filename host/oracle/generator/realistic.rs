@@ -62,6 +62,20 @@ pub fn table(random: &mut Random, limit: usize) -> Made {
     while wanted.len() < some {
         with_definition(random.below(UNITS.len()), &mut wanted);
     }
+    placed(random, wanted).0
+}
+
+/// A table of these units and of what they are defined by, and each one's row.
+pub fn of(random: &mut Random, names: &[&str]) -> (Made, Vec<u32>) {
+    let mut wanted = Vec::new();
+    names.iter().for_each(|name| with_definition(place(name), &mut wanted));
+    let (made, order) = placed(random, wanted);
+    let row = |name: &&str| order.iter().position(|at| *at == place(name)).expect("placed") as u32;
+    (made, names.iter().map(row).collect())
+}
+
+/// The units in an order and under ranks of their own.
+fn placed(random: &mut Random, wanted: Vec<usize>) -> (Made, Vec<usize>) {
     let order = ordered(random, wanted);
     let (offset, step, by_name) = (random.below(50) as u16, 1 + random.below(40) as u16, random.percent(75));
     let mut rows: Vec<Row> = Vec::new();
@@ -69,7 +83,7 @@ pub fn table(random: &mut Random, limit: usize) -> Made {
         let rank = if by_name { offset + step * *at as u16 } else { unused_rank(random, &rows) };
         rows.push(row(*at, rank, &order));
     }
-    made(rows).expect("units in use are admitted")
+    (made(rows).expect("units in use are admitted"), order)
 }
 
 fn row(at: usize, rank: u16, order: &[usize]) -> Row {

@@ -1,15 +1,18 @@
 // One request for each call: arguments that fit together more often than not.
 use scope::fractions::Fraction;
 use wire::bytes::*;
-use wire::records::{Candidate, Exponent, Factor, List, Quantity, bits_of};
+use wire::calls::{KNOT_VECTOR, SPAN_QUOTIENT};
+use wire::records::{Candidate, Exponent, Factor, List, Quantity, Rule, SpanRule, bits_of};
 use wire::stream::Request;
 
 use crate::cancelling;
 use crate::files;
+use crate::knots::{self, Vector};
 use crate::lists::{self, fraction_exponent, raised, whole_exponent};
 use crate::random::Random;
 use crate::rewriting::{exchanged, rewritten};
 use crate::tables::{self, Made};
+use crate::troubles;
 use crate::values;
 
 /// A request before it is bytes, so that faults can be put into its parts.
@@ -29,9 +32,16 @@ pub enum Part {
     Candidates(Vec<Candidate>),
     File(Vec<u8>),
     Lent(u32),
+    Knots(Vec<Quantity>),
+    Rule(Rule),
+    SpanRule(SpanRule),
 }
 
 pub fn draft(random: &mut Random, code: u32, limit: usize) -> Draft {
+    if [KNOT_VECTOR, SPAN_QUOTIENT].contains(&code) {
+        let (_, vector) = troubles::vector(random, limit);
+        return of_knots(random, code, vector);
+    }
     let mut made = tables::table(random, limit);
     if code == 22 && random.percent(40) {
         made = tables::with_twin(random, made);
@@ -53,6 +63,15 @@ pub fn draft(random: &mut Random, code: u32, limit: usize) -> Draft {
         _ => vec![Part::Quantity(quantity(random, &made))],
     };
     Draft { code, made, parts }
+}
+
+/// A knot vector as a request: its runs, or the quotient of one of its spans.
+pub fn of_knots(random: &mut Random, code: u32, vector: Vector) -> Draft {
+    let last = match code {
+        KNOT_VECTOR => Part::Rule(vector.rule.clone()),
+        _ => Part::SpanRule(knots::spanned(random, &vector)),
+    };
+    Draft { code, made: vector.made, parts: vec![Part::Knots(vector.knots), last] }
 }
 
 /// The file of the table, which is in order.
@@ -85,6 +104,9 @@ fn part_bytes(part: &Part) -> Vec<u8> {
         Part::Candidates(all) => all.iter().for_each(|c| put_candidate(&mut out, c)),
         Part::File(file) => out.extend(file),
         Part::Lent(n) => put_u32(&mut out, *n),
+        Part::Knots(knots) => knots.iter().for_each(|knot| put_quantity(&mut out, knot)),
+        Part::Rule(rule) => put_rule(&mut out, rule),
+        Part::SpanRule(span) => put_span_rule(&mut out, span),
     }
     out
 }
@@ -94,7 +116,7 @@ fn any_prefix(random: &mut Random) -> wire::records::Prefix {
     wire::records::Prefix { kind: random.below(2) as u32, n: n as i32 }
 }
 
-fn any_exponent(random: &mut Random) -> Exponent {
+pub fn any_exponent(random: &mut Random) -> Exponent {
     if random.percent(25) { fraction_exponent(random) } else { whole_exponent(random) }
 }
 

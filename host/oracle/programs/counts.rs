@@ -58,7 +58,7 @@ impl Counts {
     /// A column for each outcome that was met, and one for differences.
     pub fn print_table(&self) {
         let met: BTreeSet<&str> = self.0.values().flatten().map(|(outcome, _)| outcome.as_str()).collect();
-        let known: Vec<String> = (0..=refusals::DENOMINATOR).map(refusals::name).collect();
+        let known: Vec<String> = (0..=refusals::ARGUMENT).map(refusals::name).collect();
         let mut columns: Vec<&str> = known.iter().map(String::as_str).filter(|name| met.contains(name)).collect();
         let other = |name: &&str| ![DIFFERENT, UNJUDGED].contains(name) && known.iter().all(|k| k != name);
         columns.extend(met.iter().copied().filter(other));

@@ -1,6 +1,6 @@
 // Every call from a request to its answer by 01's rules and 02's.
 use wire::bytes::{lent, put_exponent, put_list, put_quantity, put_u32, put_u64};
-use wire::calls::FILES;
+use wire::calls::{FILES, KNOT_VECTOR, SPAN_QUOTIENT};
 use wire::records::{self, bits_of};
 use wire::refusals::DIVZERO;
 use wire::stream::{Answer, Request};
@@ -12,6 +12,7 @@ use crate::conversion::{converted, converted_merged};
 use crate::domain::number;
 use crate::files;
 use crate::fractions::{Fraction, ZERO};
+use crate::knots;
 use crate::lists::{Part, joined, negated, power, with_room, written};
 use crate::multiples::is_multiple_of;
 use crate::reduction::{base_exponents, prefix_factor, scale};
@@ -34,6 +35,9 @@ pub fn given(request: &Request) -> Checked<Vec<u8>> {
     }
     if FILES.contains(&request.code) {
         return on_files(request);
+    }
+    if [KNOT_VECTOR, SPAN_QUOTIENT].contains(&request.code) {
+        return on_knots(request);
     }
     let mut a = arguments::of(request)?;
     match request.code {
@@ -79,6 +83,17 @@ fn on_files(request: &Request) -> Checked<Vec<u8>> {
         _ => {
             let kept = files::salvage(first, lent);
             Ok(files::rows_bytes(&kept.rows, kept.byte as u32))
+        }
+    }
+}
+
+fn on_knots(request: &Request) -> Checked<Vec<u8>> {
+    let [table, given, rule] = &request.arguments[..] else { unreachable!("a call has its arguments") };
+    match request.code {
+        KNOT_VECTOR => knots::vector(table, given, rule).map(|all| knots::vector_bytes(&all)),
+        _ => {
+            let quotient = knots::span(table, given, rule)?;
+            Ok(bytes(|out| put_u64(out, bits_of(quotient))))
         }
     }
 }

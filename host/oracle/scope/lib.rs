@@ -9,6 +9,7 @@ pub mod conversion;
 pub mod domain;
 pub mod files;
 pub mod fractions;
+pub mod knots;
 pub mod lists;
 pub mod multiples;
 pub mod paths;

@@ -5,7 +5,7 @@
 use std::cell::Cell;
 
 use wire::bytes;
-use wire::calls::FILES;
+use wire::calls::{FILES, KNOT_VECTOR, SPAN_QUOTIENT};
 use wire::refusals::{DENOMINATOR, RANGE};
 use wire::stream::Request;
 
@@ -13,9 +13,9 @@ use crate::Checked;
 use crate::arguments::{self, Arguments};
 use crate::calls::given;
 use crate::canonical::canonical;
-use crate::conversion::{common, converted};
+use crate::conversion::{common, converted, converted_merged};
 use crate::fractions::ONE;
-use crate::lists::{Part, joined, negated, shaped};
+use crate::lists::{Part, joined, negated, resolved, shaped};
 use crate::multiples::is_multiple_of;
 use crate::reduction::base_exponents;
 use crate::simplification::group_target;
@@ -79,6 +79,7 @@ pub fn of(request: &Request) -> Option<Place> {
 fn step(request: &Request) -> Option<&'static str> {
     match arguments::of(request) {
         _ if FILES.contains(&request.code) => None,
+        Ok(a) if [KNOT_VECTOR, SPAN_QUOTIENT].contains(&request.code) => knot(request, &a.table),
         Ok(arguments) => call(request.code, arguments).ok()?.err(),
         Err(_) => row(&request.arguments[0]),
     }
@@ -123,6 +124,19 @@ fn call(code: u32, mut a: Arguments) -> Checked<Walked> {
         }
         _ => Ok(()),
     })
+}
+
+/// Of the lowest knot that is refused.
+fn knot(request: &Request, table: &Table) -> Option<&'static str> {
+    let rule = bytes::rule(&request.arguments[2]).or(bytes::span_rule(&request.arguments[2]).map(|span| span.rule))?;
+    let target = resolved(table, Some(rule.target)).ok()?;
+    for knot in bytes::knots(&request.arguments[1])? {
+        let own = resolved(table, Some(knot.unit.clone())).ok()?;
+        if converted_merged(table, knot.value(), &own, &target).is_err() {
+            return conversion(table, &own, &target, true).err();
+        }
+    }
+    None
 }
 
 /// Of a value that isn't zero; a zero is refused in the first two steps alone.

@@ -7,6 +7,9 @@ pub const LIST: usize = 324;
 pub const QUANTITY: usize = 336;
 pub const ROW: usize = 176;
 pub const CANDIDATE: usize = 328;
+pub const RULE: usize = 336;
+pub const SPAN_RULE: usize = 352;
+pub const DISTINCT: usize = 16;
 
 fn u16_at(b: &[u8], at: usize) -> u16 {
     u16::from_le_bytes(b[at..at + 2].try_into().unwrap())
@@ -60,6 +63,27 @@ pub fn candidates(b: &[u8]) -> Option<Vec<Candidate>> {
     b.len().is_multiple_of(CANDIDATE).then(|| b.chunks_exact(CANDIDATE).map(one).collect())
 }
 
+/// None for a length that no run of quantities has.
+pub fn knots(b: &[u8]) -> Option<Vec<Quantity>> {
+    let one = |b: &[u8]| quantity(b).expect("a quantity's bytes");
+    b.len().is_multiple_of(QUANTITY).then(|| b.chunks_exact(QUANTITY).map(one).collect())
+}
+
+pub fn rule(b: &[u8]) -> Option<Rule> {
+    let target = list(b.get(12..)?)?;
+    Some(Rule { tolerance: u64_at(b, 0), degree: u32_at(b, 8), target })
+}
+
+pub fn span_rule(b: &[u8]) -> Option<SpanRule> {
+    let (first, rest) = b.split_at_checked(RULE)?;
+    let rule = rule(first).filter(|_| b.len() == SPAN_RULE)?;
+    Some(SpanRule { rule, x: u64_at(rest, 0), place: u32_at(rest, 8) })
+}
+
+pub fn distinct(b: &[u8]) -> Vec<Distinct> {
+    b.chunks_exact(DISTINCT).map(|b| Distinct { bits: u64_at(b, 0), multiplicity: u32_at(b, 8) }).collect()
+}
+
 /// Room or places; a wrong length reads as 0.
 pub fn lent(b: &[u8]) -> u32 {
     if b.len() == 4 { u32_at(b, 0) } else { 0 }
@@ -108,6 +132,25 @@ pub fn put_row(out: &mut Vec<u8>, row: &Row) {
     put_u32(out, row.len);
     put_u64(out, row.bits);
     put_factors(out, &row.def, DEF_PLACES);
+}
+
+pub fn put_rule(out: &mut Vec<u8>, rule: &Rule) {
+    put_u64(out, rule.tolerance);
+    put_u32(out, rule.degree);
+    put_list(out, &rule.target);
+}
+
+pub fn put_span_rule(out: &mut Vec<u8>, span: &SpanRule) {
+    put_rule(out, &span.rule);
+    put_u64(out, span.x);
+    put_u32(out, span.place);
+    put_u32(out, 0);
+}
+
+pub fn put_distinct(out: &mut Vec<u8>, distinct: &Distinct) {
+    put_u64(out, distinct.bits);
+    put_u32(out, distinct.multiplicity);
+    put_u32(out, 0);
 }
 
 pub fn put_candidate(out: &mut Vec<u8>, c: &Candidate) {

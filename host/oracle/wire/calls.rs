@@ -11,6 +11,11 @@ pub enum Kind {
     File,
     /// A number alone: how many bytes are lent for a file, or how many rows.
     Lent,
+    /// A run of quantities.
+    Knots,
+    /// Tolerance, degree and target of a knot vector; of a span quotient x and the left knot's place too.
+    Rule,
+    SpanRule,
     Value,
     YesNo,
     Order,
@@ -20,6 +25,8 @@ pub enum Kind {
     Written,
     Read,
     Salvaged,
+    /// Two numbers, then distinct values with their multiplicities.
+    Vector,
 }
 
 use Kind::*;
@@ -35,7 +42,7 @@ const fn call(name: &'static str, arguments: &'static [Kind], answer: Kind) -> C
 }
 
 /// Code 1 is the first entry.
-const CALLS: [Call; 27] = [
+const CALLS: [Call; 29] = [
     call("prefix_factor", &[Prefix], Value),
     call("product", &[Table, List, List], List),
     call("quotient", &[Table, List, List], List),
@@ -63,16 +70,26 @@ const CALLS: [Call; 27] = [
     call("read_table", &[File, Lent], Read),
     call("salvage_table", &[File, Lent], Salvaged),
     call("convert_merged", &[Table, Quantity, List], Quantity),
+    call("knot_vector", &[Table, Knots, Rule], Vector),
+    call("span_quotient", &[Table, Knots, SpanRule], Value),
 ];
 
-pub const CODES: std::ops::RangeInclusive<u32> = 1..=27;
+pub const CODES: std::ops::RangeInclusive<u32> = 1..=29;
 /// 02's calls; numbat has none like them.
-pub const ADDED: std::ops::RangeInclusive<u32> = 24..=27;
+pub const ADDED: std::ops::RangeInclusive<u32> = 24..=29;
 /// Those that write and read a table file.
 pub const FILES: std::ops::RangeInclusive<u32> = 24..=26;
 /// 01's conversion, and that of 02's order 3: they take the same arguments.
 pub const CONVERT_TO: u32 = 9;
 pub const CONVERT_MERGED: u32 = 27;
+/// Those of 02's order 4: they take the same table and knots.
+pub const KNOT_VECTOR: u32 = 28;
+pub const SPAN_QUOTIENT: u32 = 29;
+
+/// The most bytes that an argument in the stream may have: 513 knots have to reach their refusal.
+pub fn limit(kind: Kind) -> u32 {
+    if kind == Knots { 262_144 } else { 65_536 }
+}
 
 pub fn of_code(code: u32) -> Option<&'static Call> {
     CALLS.get((code as usize).wrapping_sub(1))

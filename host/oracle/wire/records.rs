@@ -49,6 +49,29 @@ pub struct Candidate {
     pub unit: List,
 }
 
+/// Tolerance's bits, degree, target unit.
+#[derive(Debug, Clone, PartialEq, Eq, Hash)]
+pub struct Rule {
+    pub tolerance: u64,
+    pub degree: u32,
+    pub target: List,
+}
+
+/// A rule, x's bits, the place of the span's left knot.
+#[derive(Debug, Clone, PartialEq, Eq, Hash)]
+pub struct SpanRule {
+    pub rule: Rule,
+    pub x: u64,
+    pub place: u32,
+}
+
+/// A value's bits and how many knots it stands for.
+#[derive(Debug, Clone, Copy, PartialEq, Eq, Hash)]
+pub struct Distinct {
+    pub bits: u64,
+    pub multiplicity: u32,
+}
+
 pub const LIST_PLACES: usize = 16;
 pub const DEF_PLACES: usize = 8;
 pub const METRIC: Prefix = Prefix { kind: 0, n: 0 };

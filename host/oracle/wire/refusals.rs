@@ -12,6 +12,9 @@ pub const NONWHOLE: u32 = 10;
 pub const NAN: u32 = 11;
 pub const FORMAT: u32 = 12;
 pub const DENOMINATOR: u32 = 13;
+pub const ORDER: u32 = 14;
+pub const MULTIPLE: u32 = 15;
+pub const ARGUMENT: u32 = 16;
 
 /// Ends a stream that cannot be read on.
 pub const END: u32 = 0xffff_ffff;
@@ -31,7 +34,7 @@ pub fn is_outside(number: u32) -> bool {
 }
 
 pub fn name(number: u32) -> String {
-    const NAMES: [&str; 14] = [
+    const NAMES: [&str; 17] = [
         "answered",
         "TABLE",
         "SHAPE",
@@ -46,9 +49,12 @@ pub fn name(number: u32) -> String {
         "NAN",
         "FORMAT",
         "DENOMINATOR",
+        "ORDER",
+        "MULTIPLE",
+        "ARGUMENT",
     ];
     match number {
-        0..=DENOMINATOR => NAMES[number as usize].to_string(),
+        0..=ARGUMENT => NAMES[number as usize].to_string(),
         OUTSIDE => "outside".to_string(),
         OUTSIDE_FRACTION => "outside: FRACTION".to_string(),
         OUTSIDE_RANGE => "outside: RANGE".to_string(),

@@ -2,9 +2,7 @@
 use std::io::{self, Read, Write};
 
 use crate::bytes::put_u32;
-use crate::calls;
-
-pub const ARGUMENT_LIMIT: u32 = 65_536;
+use crate::calls::{self, limit};
 
 /// A request: its code and its arguments' bytes, the table first where there is one.
 #[derive(Debug, Clone, PartialEq, Eq, Hash)]
@@ -18,6 +16,9 @@ pub struct Answer {
     pub number: u32,
     pub bytes: Vec<u8>,
 }
+
+/// Every answer is shorter.
+const LONGEST: u32 = 65_536;
 
 pub enum Next<T> {
     One(T),
@@ -77,9 +78,10 @@ fn number(input: &mut impl Read) -> io::Result<Option<Option<u32>>> {
     Ok(Some(whole.then(|| u32::from_le_bytes([first[0], rest[0], rest[1], rest[2]]))))
 }
 
-fn argument(input: &mut impl Read) -> io::Result<Option<Vec<u8>>> {
+/// So many bytes at most, behind their number.
+fn framed(input: &mut impl Read, most: u32) -> io::Result<Option<Vec<u8>>> {
     let Some(Some(len)) = number(input)? else { return Ok(None) };
-    if len > ARGUMENT_LIMIT {
+    if len > most {
         return Ok(None);
     }
     let mut bytes = vec![0; len as usize];
@@ -92,8 +94,8 @@ pub fn read_request(input: &mut impl Read) -> io::Result<Next<Request>> {
         return Ok(Next::Broken);
     };
     let mut arguments = Vec::new();
-    for _ in call.arguments {
-        let Some(bytes) = argument(input)? else { return Ok(Next::Broken) };
+    for kind in call.arguments {
+        let Some(bytes) = framed(input, limit(*kind))? else { return Ok(Next::Broken) };
         arguments.push(bytes);
     }
     Ok(Next::One(Request { code, arguments }))
@@ -104,7 +106,7 @@ pub fn read_answer(input: &mut impl Read) -> io::Result<Next<Answer>> {
     match first {
         None => Ok(Next::Broken),
         Some(crate::refusals::END) => Ok(Next::One(Answer::refused(crate::refusals::END))),
-        Some(number) => match argument(input)? {
+        Some(number) => match framed(input, LONGEST)? {
             None => Ok(Next::Broken),
             Some(bytes) => Ok(Next::One(Answer { number, bytes })),
         },

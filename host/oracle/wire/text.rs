@@ -65,6 +65,30 @@ fn candidates(b: &[u8]) -> String {
     }
 }
 
+fn knots(b: &[u8]) -> String {
+    match bytes::knots(b) {
+        None => format!("knots of {} bytes", b.len()),
+        Some(all) => {
+            let lines: Vec<_> = all.iter().map(|knot| format!("\n    {}", quantity(knot))).collect();
+            format!("{} knots{}", all.len(), lines.concat())
+        }
+    }
+}
+
+fn rule(r: &Rule) -> String {
+    format!("to {}, tolerance {}, degree {}", list(&r.target), value(r.tolerance), r.degree)
+}
+
+fn span_rule(s: &SpanRule) -> String {
+    format!("{}; x {} in the span of knot {}", rule(&s.rule), value(s.x), s.place)
+}
+
+fn vector(number: u32, b: &[u8]) -> String {
+    let one = |d: Distinct| format!("{} times {}", d.multiplicity, value(d.bits));
+    let shown: Vec<String> = bytes::distinct(b).into_iter().map(one).collect();
+    format!("{number} distinct: {}", shown.join(", "))
+}
+
 /// At most so many bytes of a file are shown.
 const SHOWN: usize = 600;
 
@@ -105,9 +129,13 @@ pub fn part(kind: Kind, b: &[u8]) -> String {
         Kind::Multiple => (b.len() == 12).then(|| multiple(b)),
         Kind::File => Some(file(b)),
         Kind::Lent => Some(format!("{} lent", bytes::lent(b))),
+        Kind::Knots => Some(knots(b)),
+        Kind::Rule => bytes::rule(b).map(|r| rule(&r)),
+        Kind::SpanRule => bytes::span_rule(b).map(|s| span_rule(&s)),
         Kind::Written => headed(b, |length, _, rest| format!("{length}: {}", file(rest))),
         Kind::Read => headed(b, |rows, _, rest| format!("{rows}: {}", table(rest))),
         Kind::Salvaged => headed(b, |rows, byte, rest| format!("{rows} kept, byte {byte}: {}", table(rest))),
+        Kind::Vector => headed(b, |number, _, rest| vector(number, rest)),
         Kind::Reduced => {
             (b.len() == 332).then(|| format!("{} {}", value(u64_at(b, 0)), list(&bytes::list(&b[8..]).unwrap())))
         }

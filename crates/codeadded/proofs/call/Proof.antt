@@ -36,6 +36,12 @@ salvage-table-requires c κs = search needs
 convert-merged-requires : tie.Need-convert-merged-requires
 convert-merged-requires c κs = search needs
 
+knot-vector-requires : tie.Need-knot-vector-requires
+knot-vector-requires c κs = search needs
+
+span-quotient-requires : tie.Need-span-quotient-requires
+span-quotient-requires c κs = search needs
+
 refused-requires : tie.Need-refused-requires
 refused-requires c κs = search needs
 
@@ -67,9 +73,23 @@ returns-4 : tie.Need-returns-4
 unfolding look calls
 returns-4 c = rw (c .before .before .before .before .match .keys4) (c .before .before .convert-merged .ensures)
 
+same-length-5 : tie.Need-same-length-5
+same-length-5 c = search needs
+
 returns-5 : tie.Need-returns-5
+unfolding look calls
+returns-5 c = rw (c .before .before .before .before .match .keys5) (c .before .before .knot-vector .ensures)
+
+same-length-6 : tie.Need-same-length-6
+same-length-6 c = search needs
+
+returns-6 : tie.Need-returns-6
+unfolding look calls
+returns-6 c = rw (c .before .before .before .before .match .keys6) (c .before .before .span-quotient .ensures)
+
+returns-7 : tie.Need-returns-7
 unfolding calls
-returns-5 c = replied-none calls _ _ _ _ _ _ (c .before .match .rest) (c .refused .ensures .0) (c .refused .ensures .1)
+returns-7 c = replied-none calls _ _ _ _ _ _ (c .before .match .rest) (c .refused .ensures .0) (c .refused .ensures .1)
 
 pub call-spec : {M : Type 1} → statement M
 call-spec =
@@ -85,6 +105,8 @@ call-spec =
     cast-salvage-table
     salvage-table-requires
     convert-merged-requires
+    knot-vector-requires
+    span-quotient-requires
     refused-requires
     same-length
     returns
@@ -94,4 +116,8 @@ call-spec =
     returns-3
     same-length-4
     returns-4
-    returns-5)
+    same-length-5
+    returns-5
+    same-length-6
+    returns-6
+    returns-7)

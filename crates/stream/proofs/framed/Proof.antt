@@ -10,7 +10,7 @@ use Rattle.stream.proofs.framed.Statement.{statement}
 use Rattle.stream.proofs.framed.Tie as tie
 
 abbrev Inv-loop : tie.InvT-loop
-Inv-loop code s from n at₀ k₀ at k = (k ≤ n) × (at ≤ length s) × (arguments (n - k) s at ≡ framed code s from)
+Inv-loop code s from n at₀ k₀ at k = (k ≤ n) × (at ≤ length s) × (arguments code k (n - k) s at ≡ framed code s from)
 
 abbrev μ-loop : tie.MeasureT-loop
 μ-loop code s from n at₀ k₀ at k = n - k
@@ -38,7 +38,7 @@ cut-requires-2 c κs = search needs
 returns-2 : tie.Need-returns-2 Inv-loop μ-loop
 returns-2 c =
     cut-is _ 1 (c .cut2 .ensures .0) (c .cut2 .ensures .1)
-    ∙ sym (no-length _ _ _ _ _ (c .before .before .before .loop .inv .2) (omega arith) (omega arith))
+    ∙ sym (no-length _ _ _ _ _ _ (c .before .before .before .loop .inv .2) (omega arith) (omega arith))
 
 read-u32-requires : tie.Need-read-u32-requires Inv-loop μ-loop
 read-u32-requires c κs = search needs
@@ -46,13 +46,16 @@ read-u32-requires c κs = search needs
 cast-m : tie.Need-cast-m Inv-loop μ-loop
 cast-m c = search needs
 
+most-requires : tie.Need-most-requires Inv-loop μ-loop
+most-requires c κs = search needs
+
 cut-requires-3 : tie.Need-cut-requires-3 Inv-loop μ-loop
 cut-requires-3 c κs = search needs
 
 returns-3 : tie.Need-returns-3 Inv-loop μ-loop
 returns-3 c =
     cut-is _ 2 (c .cut3 .ensures .0) (c .cut3 .ensures .1)
-    ∙ sym (too-long _ _ _ _ _ (c .before .before .before .before .before .loop .inv .2) (omega arith) (omega arith) _ (c .before .before .read-u32 .ensures) (omega arith))
+    ∙ sym (too-long _ _ _ _ _ _ (c .before .before .before .before .before .before .loop .inv .2) (omega arith) (omega arith) _ (c .before .before .before .read-u32 .ensures) (omega arith))
 
 add-at : tie.Need-add-at Inv-loop μ-loop
 add-at c = search needs
@@ -66,7 +69,7 @@ cut-requires-4 c κs = search needs
 returns-4 : tie.Need-returns-4 Inv-loop μ-loop
 returns-4 c =
     cut-is _ 1 (c .cut4 .ensures .0) (c .cut4 .ensures .1)
-    ∙ sym (no-bytes _ _ _ _ _ (c .before .before .before .before .before .before .loop .inv .2) (omega arith) (omega arith) _ (c .before .before .before .read-u32 .ensures) (omega arith) (omega arith))
+    ∙ sym (no-bytes _ _ _ _ _ _ (c .before .before .before .before .before .before .before .loop .inv .2) (omega arith) (omega arith) _ (c .before .before .before .before .read-u32 .ensures) (omega arith) (omega arith))
 
 add-at-2 : tie.Need-add-at-2 Inv-loop μ-loop
 add-at-2 c = search needs
@@ -81,11 +84,11 @@ loop-again : tie.Need-loop-again Inv-loop μ-loop
 loop-again c = (
   omega arith,
   omega arith,
-  one-more _ _ _ _ _ (c .before .before .before .before .before .loop .inv .2) (omega arith) (omega arith) _ (c .before .before .read-u32 .ensures) (omega arith) (omega arith),
+  one-more _ _ _ _ _ _ (c .before .before .before .before .before .before .loop .inv .2) (omega arith) (omega arith) _ (c .before .before .before .read-u32 .ensures) (omega arith) (omega arith),
 )
 
 returns-5 : tie.Need-returns-5 Inv-loop μ-loop
-returns-5 c = sym (no-more _ _ _ _ _ (c .before .loop .inv .2) (omega arith))
+returns-5 c = sym (no-more _ _ _ _ _ _ (c .before .loop .inv .2) (omega arith))
 
 pub framed-spec : {M : Type 1} → statement M
 framed-spec =
@@ -102,6 +105,7 @@ framed-spec =
     returns-2
     read-u32-requires
     cast-m
+    most-requires
     cut-requires-3
     returns-3
     add-at

@@ -1,8 +1,9 @@
 // The wrapper's tests, each over the archive: the bench list, table files, the halves of fractions, the conversion that
-// cancels on both sides, the limits, the refusals, the bytes.
+// cancels on both sides, knot vectors, the limits, the refusals, the bytes.
 mod bench;
 mod files;
 mod halves;
+mod knots;
 mod layout;
 mod limits;
 mod merged;

@@ -1,6 +1,6 @@
-// Each of the thirteen refusals, and their numbers.
+// Each of the sixteen refusals, and their numbers.
 use super::*;
-use crate::{Refusal, prefix_factor};
+use crate::{KnotRule, Refusal, prefix_factor};
 
 #[test]
 fn of_tables_and_lists() {
@@ -35,6 +35,14 @@ fn of_files() {
 }
 
 #[test]
+fn of_knots() {
+    let vector = |knots: &[Quantity]| table().knot_vector(knots, &KnotRule::new(one(METRE), 0.0, 1)).err();
+    assert_eq!(vector(&[of(2.0, METRE), of(1.0, METRE)]), Some(Refusal::Order));
+    assert_eq!(vector(&[of(1.0, METRE), of(1.0, METRE), of(1.0, METRE)]), Some(Refusal::Multiple));
+    assert_eq!(vector(&[]), Some(Refusal::Argument));
+}
+
+#[test]
 fn the_table_comes_before_the_arguments() {
     let broken = Table::new(&[Row::base(1), Row::base(1)]);
     assert_eq!(broken.product(&one(200), &one(200)), Err(Refusal::Table));
@@ -50,5 +58,5 @@ fn numbers_and_names() {
         assert_eq!(Refusal::of(refusal.number()), Some(refusal));
         assert_eq!(format!("{refusal:?}").to_uppercase(), refusal.name());
     }
-    assert_eq!((Refusal::of(0), Refusal::of(14), Refusal::of(u32::MAX)), (None, None, None));
+    assert_eq!((Refusal::of(0), Refusal::of(17), Refusal::of(u32::MAX)), (None, None, None));
 }

@@ -10,6 +10,7 @@ use Rattle.common.specs.Held.{lessen}
 use Rattle.common.proofs.Resolved.{lessen-resolved}
 use Rattle.conversion.specs.Conversion.{against}
 use Rattle.conversion.specs.Held.{convertedOf}
+use Rattle.conversion.proofs.Rating.{scales-refused}
 use Rattle.conversion.proofs.Converting.{stops, own-range, target-stops}
 use Rattle.conversion.proofs.convert.lessening.Statement.{statement}
 use Rattle.conversion.proofs.convert.lessening.Tie as tie
@@ -17,10 +18,14 @@ use Rattle.conversion.proofs.convert.lessening.Tie as tie
 lessened-requires : tie.Need-lessened-requires
 lessened-requires c κs = search needs
 
+no-scales-requires : tie.Need-no-scales-requires
+no-scales-requires c κs = search needs
+
 returns : tie.Need-returns
-returns c v fs gs cs lends rl rm rc =
-    let x = c .before .before in
-    stops _ _ (unformed v (lessen (v .order) fs cs) (x .lessened .result) (x .lessened .ensures v fs cs rl rc) (c .if1 .taken))
+returns c v fs gs cs lends rl rm rc z =
+    let x = c .before .before .before in
+    scales-refused z (c .no-scales .ensures) (c .before .if1 .taken)
+    (stops _ _ (unformed v (lessen (v .order) fs cs) (x .lessened .result) (x .lessened .ensures v fs cs rl rc) (c .before .if1 .taken)))
 
 lessened-requires-2 : tie.Need-lessened-requires-2
 lessened-requires-2 c κs = search needs
@@ -28,40 +33,48 @@ lessened-requires-2 c κs = search needs
 base-of-requires : tie.Need-base-of-requires
 base-of-requires c κs = search needs
 
+no-scales-requires-2 : tie.Need-no-scales-requires-2
+no-scales-requires-2 c κs = search needs
+
 returns-2 : tie.Need-returns-2
-returns-2 c v fs gs cs lends rl rm rc =
-    let y = c .before .before in
+returns-2 c v fs gs cs lends rl rm rc w =
+    let y = c .before .before .before in
     let z = y .before .before .before in
     let x = z .before .before .before .before in
     let R = rulesBy v (x .before .before .args .n) in
     let o = formed v (lessen (v .order) fs cs) (x .lessened .result) (lessen-resolved v fs cs rl rc) (x .lessened .ensures v fs cs rl rc) (z .before .before .if1 .left) in
-    own-range R (o .answer) (lessen (v .order) gs cs) (x .before .before .args .x) _ (exps-refused (base (R .bases) (o .answer)) (y .base-of .result) (y .base-of .ensures v (o .answer) lends (o .list)) (c .if3 .taken))
-    ∙ sym (ap convertedOf (bind-given _ (o .is)))
+    scales-refused w (c .no-scales2 .ensures) (c .before .if3 .taken)
+    (own-range R (o .answer) (lessen (v .order) gs cs) w _ (exps-refused (base (R .bases) (o .answer)) (y .base-of .result) (y .base-of .ensures v (o .answer) lends (o .list)) (c .before .if3 .taken))
+    ∙ sym (ap convertedOf (bind-given _ (o .is))))
+
+no-scales-requires-3 : tie.Need-no-scales-requires-3
+no-scales-requires-3 c κs = search needs
 
 returns-3 : tie.Need-returns-3
-returns-3 c v fs gs cs lends rl rm rc =
-    let y = c .before .before in
+returns-3 c v fs gs cs lends rl rm rc w =
+    let y = c .before .before .before in
     let z = y .before .before .before in
     let x = z .before .before .before .before in
     let R = rulesBy v (x .before .before .args .n) in
     let o = formed v (lessen (v .order) fs cs) (x .lessened .result) (lessen-resolved v fs cs rl rc) (x .lessened .ensures v fs cs rl rc) (z .before .before .if1 .left) in
-    let a = exps-given (base (R .bases) (o .answer)) (y .base-of .result) (y .base-of .ensures v (o .answer) lends (o .list)) (c .if3 .left) in
-    target-stops R (o .answer) (lessen (v .order) gs cs) (x .before .before .args .x) (a .exps) (a .is) _
+    let a = exps-given (base (R .bases) (o .answer)) (y .base-of .result) (y .base-of .ensures v (o .answer) lends (o .list)) (c .before .if3 .left) in
+    scales-refused w (c .no-scales3 .ensures) (y .before .if2 .taken)
+    (target-stops R (o .answer) (lessen (v .order) gs cs) w (a .exps) (a .is) _
     (unformed v (lessen (v .order) gs cs) (z .lessened2 .result) (z .lessened2 .ensures v gs cs rm rc) (y .before .if2 .taken))
-    ∙ sym (ap convertedOf (bind-given _ (o .is)))
+    ∙ sym (ap convertedOf (bind-given _ (o .is))))
 
 apart-requires : tie.Need-apart-requires
 apart-requires c κs = search needs
 
 returns-4 : tie.Need-returns-4
-returns-4 c v fs gs cs lends rl rm rc =
+returns-4 c v fs gs cs lends rl rm rc w =
     let z = c .before .before .before .before in
     let x = z .before .before .before .before in
     let R = rulesBy v (x .before .before .args .n) in
     let o = formed v (lessen (v .order) fs cs) (x .lessened .result) (lessen-resolved v fs cs rl rc) (x .lessened .ensures v fs cs rl rc) (z .before .before .if1 .left) in
     let t = formed v (lessen (v .order) gs cs) (z .lessened2 .result) (lessen-resolved v gs cs rm rc) (z .lessened2 .ensures v gs cs rm rc) (c .before .before .if2 .left) in
-    c .apart .ensures v (o .answer) (t .answer) lends (o .list) (t .list)
-    ∙ ap (λ target. convertedOf (against R (o .answer) target (x .before .before .args .x))) (sym (t .is))
+    c .apart .ensures v (o .answer) (t .answer) lends (o .list) (t .list) w
+    ∙ ap (λ target. convertedOf (against R (o .answer) target w)) (sym (t .is))
     ∙ sym (ap convertedOf (bind-given _ (o .is)))
 
 pub lessening-spec : {M : Type 1} → statement M
@@ -69,10 +82,13 @@ lessening-spec =
     tie.close
     (tie.spec
     lessened-requires
+    no-scales-requires
     returns
     lessened-requires-2
     base-of-requires
+    no-scales-requires-2
     returns-2
+    no-scales-requires-3
     returns-3
     apart-requires
     returns-4)

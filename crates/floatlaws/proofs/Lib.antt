@@ -1,0 +1,7 @@
+pub mod Signed
+pub mod Comparison
+pub mod Order
+pub mod Differences
+pub mod Monotone
+pub mod Spans
+pub mod Shares

@@ -1,0 +1,17 @@
+pub mod Floats
+pub mod Turns
+pub mod Conversions
+pub mod Spans
+pub mod Answers
+pub mod Filling
+pub mod Ordered
+pub mod Apart
+pub mod Multiplicities
+pub mod Rising
+pub mod Stands
+pub mod Quotients
+pub mod Joining
+pub mod Groups
+pub mod Cases
+pub mod Depending
+pub mod Examples

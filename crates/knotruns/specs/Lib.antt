@@ -1,0 +1,4 @@
+pub mod Values
+pub mod Runs
+pub mod Knots
+pub mod Held

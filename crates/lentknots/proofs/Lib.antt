@@ -1,0 +1,3 @@
+pub mod ThinLSP
+pub mod ThinLSPMM
+pub mod Types
