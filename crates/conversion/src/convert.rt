@@ -55,8 +55,9 @@ fn no_scales(refusal: u32) -> Scales
 fn scaled(s: Scales, x: f64) -> Converted
     ensures { λ r. ⌜ r ≡ scaledBy s x ⌝ }
 {
+    let y = x * s.own / s.target;
     if s.refusal == 0 {
-        return Converted::Value(x * s.own / s.target);
+        return Converted::Value(y);
     }
     Converted::Refused(s.refusal)
 }

@@ -21,3 +21,4 @@ pub mod Misread
 pub mod Shipped
 pub mod Shipping
 pub mod Merged
+pub mod Vectors

@@ -1,0 +1,3 @@
+pub mod Words
+pub mod Knots
+pub mod Examples
