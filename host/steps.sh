@@ -110,32 +110,21 @@ finish_one() {
     running=("${running[@]:1}")
 }
 
-# differential [--requests N] [SEED ..]: N requests for each seed
-differential() {
-    local size=130000
-    [ "${1:-}" != --requests ] || { size=$2 && shift 2; }
+# compared NAME WHAT N CRATES [--WHAT N] [SEED ..]: a comparison over N for each seed, unless said
+compared() {
+    local name=$1 what=$2 size=$3 crates
+    read -ra crates <<<"$4"
+    shift 4
+    [ "${1:-}" != "--$what" ] || { size=$2 && shift 2; }
     oracle_crates on
-    program differential wire scope published generator
-    seeds differential "$size" "$@"
+    program "$name" "${crates[@]}"
+    seeds "$name" "$size" "$@"
 }
 
-# files [--files N] [SEED ..]: N table files for each seed
-files() {
-    local size=130000
-    [ "${1:-}" != --files ] || { size=$2 && shift 2; }
-    oracle_crates on
-    program files wire scope generator
-    seeds files "$size" "$@"
-}
-
-# knots [--vectors N] [SEED ..]: N knot vectors for each seed
-knots() {
-    local size=26000
-    [ "${1:-}" != --vectors ] || { size=$2 && shift 2; }
-    oracle_crates on
-    program knots wire scope generator
-    seeds knots "$size" "$@"
-}
+# Requests of all calls, table files, knot vectors.
+differential() { compared differential requests 130000 'wire scope published generator' "$@"; }
+files() { compared files files 130000 'wire scope generator' "$@"; }
+knots() { compared knots vectors 26000 'wire scope generator' "$@"; }
 
 # Conversions between units in use by both rules, held against exact fractions.
 families() {

@@ -10,6 +10,8 @@
 // answer in another way than the byte form says.
 #[path = "../by_code.rs"]
 mod by_code;
+#[path = "../by_seed.rs"]
+mod by_seed;
 // The oracle prints them in another way too.
 #[allow(dead_code)]
 #[path = "../oracle/programs/counts.rs"]
@@ -65,14 +67,7 @@ fn table(files: &[String]) -> io::Result<bool> {
 }
 
 fn main() -> io::Result<ExitCode> {
-    let given: Vec<String> = std::env::args().skip(1).collect();
-    let number = |at: usize| given[at].parse::<u64>().map_err(|_| io::Error::other(USE));
     // A panic of the Rust is an answer of its own, not a message.
     std::panic::set_hook(Box::new(|_| {}));
-    let alike = match given.first().map(String::as_str) {
-        Some("--table") => table(&given[1..])?,
-        _ if given.len() == 3 => held(number(0)?, number(1)?, &given[2])?,
-        _ => return Err(io::Error::other(USE)),
-    };
-    Ok(if alike { ExitCode::SUCCESS } else { ExitCode::FAILURE })
+    by_seed::main(USE, held, table)
 }

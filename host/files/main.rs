@@ -6,6 +6,8 @@
 // Each file is read and salvaged, and the rows it was written from are written; refusal numbers, answers and the bytes
 // that a call must leave are compared. Beside that a read has to answer exactly if a salvage keeps all, a write after a
 // read to give the file, and a read after a write the rows. Ends with 1 if anything differs.
+#[path = "../by_seed.rs"]
+mod by_seed;
 mod counts;
 mod judging;
 mod tables;
@@ -47,12 +49,5 @@ fn table(given: &[String]) -> io::Result<bool> {
 }
 
 fn main() -> io::Result<ExitCode> {
-    let given: Vec<String> = std::env::args().skip(1).collect();
-    let number = |at: usize| given[at].parse::<u64>().map_err(|_| io::Error::other(USE));
-    let alike = match given.first().map(String::as_str) {
-        Some("--table") => table(&given[1..])?,
-        _ if given.len() == 3 => held(number(0)?, number(1)?, &given[2])?,
-        _ => return Err(io::Error::other(USE)),
-    };
-    Ok(if alike { ExitCode::SUCCESS } else { ExitCode::FAILURE })
+    by_seed::main(USE, held, table)
 }

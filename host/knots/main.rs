@@ -8,6 +8,8 @@
 // leave are compared; what 02 says of every answer is tested beside that. Ends with 1 if anything differs, or if one of
 // the refusals was never met.
 mod asking;
+#[path = "../by_seed.rs"]
+mod by_seed;
 mod counts;
 mod judging;
 mod laws;
@@ -45,12 +47,5 @@ fn table(given: &[String]) -> io::Result<bool> {
 }
 
 fn main() -> io::Result<ExitCode> {
-    let given: Vec<String> = std::env::args().skip(1).collect();
-    let number = |at: usize| given[at].parse::<u64>().map_err(|_| io::Error::other(USE));
-    let alike = match given.first().map(String::as_str) {
-        Some("--table") => table(&given[1..])?,
-        _ if given.len() == 3 => held(number(0)?, number(1)?, &given[2])?,
-        _ => return Err(io::Error::other(USE)),
-    };
-    Ok(if alike { ExitCode::SUCCESS } else { ExitCode::FAILURE })
+    by_seed::main(USE, held, table)
 }
