@@ -22,3 +22,4 @@ pub mod Shipped
 pub mod Shipping
 pub mod Merged
 pub mod Vectors
+pub mod Own
