@@ -6,7 +6,7 @@ usage: docs/believed.py             lines by file, reached and all, and the sums
        docs/believed.py --why NAME  by which definition NAME is reached first
 
 Reached are the names in the contracts of the shipped calls (CALLS), in those of the byte form and the stream (BYTES) and in the theorems
-of `promises`, `filepromises`, `halves`, `cancels` and `knotpromises`, and, from each, the names in its own text. Lines are those of definitions: no imports, comments or blank lines.
+of `promises`, `filepromises`, `halves`, `cancels`, `knotpromises` and `countpromises`, and, from each, the names in its own text. Lines are those of definitions: no imports, comments or blank lines.
 A file specs/Held.antt says how code holds things, every other file of specs is a rule file.
 """
 import re
@@ -16,7 +16,7 @@ from pathlib import Path
 HOME = Path(__file__).resolve().parent.parent
 CALLS = ['lentcalls', 'lentfiles', 'lentknots', 'demsharin']
 BYTES = ['wire', 'replies', 'stream', 'inflow']
-THEOREMS = ['promises', 'filepromises', 'halves', 'cancels', 'knotpromises']
+THEOREMS = ['promises', 'filepromises', 'halves', 'cancels', 'knotpromises', 'countpromises']
 
 USE = re.compile(r'^\s*(?:ghost )?use\s+Rattle·(\w+)(?:·specs)?\.specs\.([A-Z]\w*)(?:\.\{(.*)\})?(?:\s+as\s+([^\s;]+))?;?\s*$')
 

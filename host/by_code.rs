@@ -1,7 +1,7 @@
 // The archive's functions by the codes of the byte form, for programs that take requests.
 use demsharin::bytes::{
-    FILE_BYTES, HEAD_BYTES, LIST_BYTES, MULTIPLE_BYTES, NUMBER_BYTES, QUANTITY_BYTES, REDUCED_BYTES, ROW_BYTES,
-    VALUE_BYTES,
+    COUNTED_BYTES, FILE_BYTES, HEAD_BYTES, LIST_BYTES, MULTIPLE_BYTES, NUMBER_BYTES, QUANTITY_BYTES, REDUCED_BYTES,
+    ROW_BYTES, VALUE_BYTES,
 };
 use demsharin::exports;
 use wire::bytes::{DISTINCT, lent};
@@ -41,6 +41,8 @@ pub fn call(request: &Request, out: &mut [u8]) -> u32 {
         (27, [table, a, b]) => exports::convert_merged(table, a, b, out),
         (28, [table, knots, rule]) => exports::knot_vector(table, knots, rule, out),
         (29, [table, knots, rule]) => exports::span_quotient(table, knots, rule, out),
+        (30, [table, a, b]) => exports::convert_to_counted(table, a, b, out),
+        (31, [table, a, b]) => exports::convert_merged_counted(table, a, b, out),
         (code, arguments) => panic!("no call {code} with {} arguments", arguments.len()),
     }
 }
@@ -55,6 +57,7 @@ pub fn answer_bytes(request: &Request) -> usize {
             HEAD_BYTES + ROW_BYTES * (lent(&request.arguments[1]) as usize).min(request.arguments[0].len())
         }
         Kind::Vector => HEAD_BYTES + DISTINCT * (request.arguments[1].len() / QUANTITY_BYTES).min(512),
+        Kind::Counted => COUNTED_BYTES,
         Kind::Value => VALUE_BYTES,
         Kind::YesNo | Kind::Order => NUMBER_BYTES,
         Kind::List => LIST_BYTES,

@@ -121,10 +121,11 @@ compared() {
     seeds "$name" "$size" "$@"
 }
 
-# Requests of all calls, table files, knot vectors.
+# Requests of all calls, table files, knot vectors, counted conversions.
 differential() { compared differential requests 130000 'wire scope published generator' "$@"; }
 files() { compared files files 130000 'wire scope generator' "$@"; }
 knots() { compared knots vectors 26000 'wire scope generator' "$@"; }
+counts() { compared counts conversions 30000 'wire scope generator' "$@"; }
 
 # Conversions between units in use by both rules, held against exact fractions.
 families() {
@@ -132,8 +133,8 @@ families() {
     run_x86 "$build/families" | python3 "$here/families/judge.py"
 }
 
-# speed [compare] [files] [merged] [knots] [growth] [stack] [--round MILLISECONDS]: the Rust as a release build has it, without checks
-# for overflow
+# speed [compare] [files] [merged] [knots] [counted] [growth] [stack] [--round MILLISECONDS]: the Rust as a release build has
+# it, without checks for overflow
 speed() {
     oracle_crates off
     program speed wire scope published

@@ -18,6 +18,7 @@
  *   Factor      0 row u32             4 Prefix                12 Exponent
  *   List        0 length u32          4 Factor x 16
  *   Quantity    0 value's bits u64    8 mark u32 (0: may not be simplified)   12 List
+ *   Counted     0 Quantity            336 count u32           340 reserved u32
  *   Row         0 rank u16            2 kind u16 (0 base, 1 derived)          4 definition's length u32
  *               8 factor's bits u64 (of a base row never read)                16 Factor x 8
  *   Candidate   0 rank u16            2 reserved u16          4 List
@@ -57,6 +58,7 @@
 #define DEMSHARIN_FACTOR_BYTES 20
 #define DEMSHARIN_LIST_BYTES 324
 #define DEMSHARIN_QUANTITY_BYTES 336
+#define DEMSHARIN_COUNTED_BYTES 344
 #define DEMSHARIN_ROW_BYTES 176
 #define DEMSHARIN_CANDIDATE_BYTES 328
 #define DEMSHARIN_MULTIPLE_BYTES 12
@@ -261,6 +263,22 @@ uint32_t demsharin_knot_vector(const uint8_t *table, size_t table_len, const uin
 uint32_t demsharin_span_quotient(const uint8_t *table, size_t table_len, const uint8_t *knots, size_t knots_len,
                                  const uint8_t *span_rule, size_t span_rule_len, uint8_t *out,
                                  size_t out_len);
+
+/* Quantity, List -> Counted: the quantity that demsharin_convert_to answers, and how many multiplications were
+ * done inside the power rule for it, prefix powers included: for each factor of both scales those of its prefix
+ * power, then those of the power to its whole exponent. A power to n takes the set bits of |n| plus its bit
+ * length minus one, none for n = 0: at most 61, and at most 19 for a prefix. A fraction over exactly 1 takes
+ * none. A zero and equal lists count 0, and the checks of the rows aren't counted. At most 3744. Refused as
+ * demsharin_convert_to is. */
+uint32_t demsharin_convert_to_counted(const uint8_t *table, size_t table_len, const uint8_t *quantity,
+                                      size_t quantity_len, const uint8_t *target, size_t target_len,
+                                      uint8_t *out, size_t out_len);
+
+/* Quantity, List -> Counted: the same of demsharin_convert_merged, for factors that cancel on both sides none.
+ * At most 2560. */
+uint32_t demsharin_convert_merged_counted(const uint8_t *table, size_t table_len, const uint8_t *quantity,
+                                          size_t quantity_len, const uint8_t *target, size_t target_len,
+                                          uint8_t *out, size_t out_len);
 
 #ifdef __cplusplus
 }

@@ -67,8 +67,8 @@ def said(name, right, found, used):
 
 def main():
     names = [f"call-{code:02}.bin" for code in STANDING]
-    names += ["edges-admissions.bin", "edges-files.bin", "edges-halves.bin", "edges-knots.bin", "edges-limits.bin"]
-    names += ["edges-merged.bin"]
+    names += ["edges-admissions.bin", "edges-counted.bin", "edges-files.bin", "edges-halves.bin", "edges-knots.bin"]
+    names += ["edges-limits.bin", "edges-merged.bin"]
     names += ["named-files.bin", "named-rules.bin", "named-simplifications.bin", "named-sixteenth.bin"]
     stored = {name: (DATA / name).read_bytes() for name in names}
     source = list(records(stored["call-18.bin"]))[:40]

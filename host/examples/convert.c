@@ -1,4 +1,5 @@
-/* Ten inches in metres and a knot vector from C: records put together byte by byte, calls, and refusals. */
+/* Ten inches in metres, what that costs, and a knot vector from C: records put together byte by byte, calls, and
+ * refusals. */
 #include "demsharin.h"
 
 #include <inttypes.h>
@@ -66,6 +67,25 @@ static uint32_t merged(const uint8_t *table, size_t table_len, uint32_t a, uint3
     return demsharin_canonical(table, table_len, list, sizeof list, answer, sizeof answer);
 }
 
+/* How many multiplications a conversion takes by 01's rule and by the one that cancels on both sides; both have
+ * to answer with the same bytes of quantity as without a count. */
+static int counted(const uint8_t *table, size_t table_len, const uint8_t *quantity, const uint8_t *target,
+                   uint32_t counts[2]) {
+    uint8_t plain[DEMSHARIN_QUANTITY_BYTES], answer[DEMSHARIN_COUNTED_BYTES];
+    uint32_t refusal = demsharin_convert_to(table, table_len, quantity, DEMSHARIN_QUANTITY_BYTES, target,
+                                            DEMSHARIN_LIST_BYTES, plain, sizeof plain);
+    refusal |= demsharin_convert_to_counted(table, table_len, quantity, DEMSHARIN_QUANTITY_BYTES, target,
+                                            DEMSHARIN_LIST_BYTES, answer, sizeof answer);
+    int alike = memcmp(plain, answer, sizeof plain) == 0;
+    counts[0] = (uint32_t)get(answer + DEMSHARIN_QUANTITY_BYTES, 4);
+    refusal |= demsharin_convert_merged(table, table_len, quantity, DEMSHARIN_QUANTITY_BYTES, target,
+                                        DEMSHARIN_LIST_BYTES, plain, sizeof plain);
+    refusal |= demsharin_convert_merged_counted(table, table_len, quantity, DEMSHARIN_QUANTITY_BYTES, target,
+                                                DEMSHARIN_LIST_BYTES, answer, sizeof answer);
+    counts[1] = (uint32_t)get(answer + DEMSHARIN_QUANTITY_BYTES, 4);
+    return refusal == DEMSHARIN_ANSWERED && alike && memcmp(plain, answer, sizeof plain) == 0;
+}
+
 /* A knot as a supplier sends it; n is the power of ten before the unit. */
 static void put_knot(uint8_t *place, double value, uint32_t row, int32_t n) {
     put(place, bits_of(value), 8);
@@ -124,6 +144,10 @@ int main(void) {
     uint64_t bits = get(answer, 8);
     printf("10 inch = %.17g metre (bits %016" PRIx64 ")\n", value_of(bits), bits);
 
+    uint32_t counts[2];
+    int count = counted(table, sizeof table, quantity, target, counts) && counts[0] == 2 && counts[1] == 2;
+    printf("10 inch to metre: %" PRIu32 " multiplications inside the power rule\n", counts[0]);
+
     put_list(target, 2);
     refusal = demsharin_convert_to(table, sizeof table, quantity, sizeof quantity, target, sizeof target,
                                    answer, sizeof answer);
@@ -139,5 +163,5 @@ int main(void) {
     int knots = vector(table, sizeof table, 0.0, 1, 0.1, &apart) == DEMSHARIN_ANSWERED && apart == 4 &&
                 vector(table, sizeof table, 2e-17, 1, 0.1, &together) == DEMSHARIN_ANSWERED && together == 3 &&
                 vector(table, sizeof table, -1.0, 1, 0.1, &together) == DEMSHARIN_ARGUMENT;
-    return kept && power == DEMSHARIN_RANGE && root == DEMSHARIN_DENOMINATOR && knots ? 0 : 1;
+    return kept && count && power == DEMSHARIN_RANGE && root == DEMSHARIN_DENOMINATOR && knots ? 0 : 1;
 }

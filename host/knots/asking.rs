@@ -2,8 +2,10 @@
 use generator::knots::{self, SORTS, Vector};
 use generator::random::Random;
 use generator::troubles;
-use wire::bytes::{QUANTITY, RULE, distinct, put_quantity, put_row, put_rule, put_span_rule, u32_at};
-use wire::records::{LIST_PLACES, SpanRule};
+use wire::bytes::{QUANTITY, RULE, distinct, put_quantity, put_row, put_rule, put_span_rule};
+use wire::records::SpanRule;
+
+use crate::unread;
 
 /// The most rows of a table (a few more where definitions need them), and how often.
 const ROWS: [usize; 20] = [19, 19, 19, 19, 19, 19, 19, 19, 19, 19, 19, 3, 3, 3, 3, 3, 3, 3, 3, 128];
@@ -42,7 +44,7 @@ pub fn next(random: &mut Random) -> Asked {
     vector.made.rows.iter().for_each(|row| put_row(&mut table, row));
     vector.knots.iter().for_each(|knot| put_quantity(&mut knots, knot));
     if random.percent(25) {
-        knots.chunks_exact_mut(QUANTITY).for_each(|knot| fill_unread(random, &mut knot[12..]));
+        knots.chunks_exact_mut(QUANTITY).for_each(|knot| unread::fill(random, &mut knot[12..]));
     }
     let mut asked = Asked { way, vector, table, knots, length: None };
     if random.percent(3) {
@@ -64,15 +66,6 @@ fn no_run(random: &mut Random, knots: &mut Vec<u8>) {
     knots.resize(length, 0);
 }
 
-/// What stands behind a list's length in its 16 places.
-fn fill_unread(random: &mut Random, list: &mut [u8]) {
-    let length = (u32_at(list, 0) as usize).min(LIST_PLACES);
-    for bytes in list[4 + 20 * length..].chunks_mut(8) {
-        let any = random.bits().to_le_bytes();
-        bytes.copy_from_slice(&any[..bytes.len()]);
-    }
-}
-
 /// Of each knot the first value of its run, from the distinct values with their multiplicities.
 fn firsts(answer: &[u8]) -> Vec<f64> {
     let all = distinct(&answer[8..]).into_iter();
@@ -89,7 +82,7 @@ impl Asked {
         let mut rule = Vec::new();
         put_rule(&mut rule, &self.vector.rule);
         if random.percent(25) {
-            fill_unread(random, &mut rule[12..]);
+            unread::fill(random, &mut rule[12..]);
         }
         self.lengthened(rule)
     }

@@ -14,6 +14,10 @@ mod counts;
 mod judging;
 mod laws;
 mod sorts;
+#[path = "../tallies.rs"]
+mod tallies;
+#[path = "../unread.rs"]
+mod unread;
 
 use std::io;
 use std::process::ExitCode;
@@ -40,8 +44,7 @@ fn held(seed: u64, count: u64, file: &str) -> io::Result<bool> {
 }
 
 fn table(given: &[String]) -> io::Result<bool> {
-    let read: Vec<Counts> = given.iter().map(|file| Counts::read(file)).collect::<io::Result<_>>()?;
-    let counts = read.into_iter().fold(Counts::default(), Counts::with);
+    let counts = Counts::read(given)?;
     counts.print();
     Ok(counts.different() == 0 && counts.missed().is_empty())
 }

@@ -25,12 +25,12 @@ LIMIT = 65536
 KNOTS_LIMIT = 262144
 END = b"\xff\xff\xff\xff"
 TWO = {5, 7, 8, 15, 16, 21, 23, 24, 25, 26}
-ANSWERS = {1: 8, 6: 4, 7: 332, 17: 4, 18: 4, 20: 12, 29: 8} | dict.fromkeys([2, 3, 4, 5, 19], 324)
+ANSWERS = {1: 8, 6: 4, 7: 332, 17: 4, 18: 4, 20: 12, 29: 8, 30: 344, 31: 344} | dict.fromkeys([2, 3, 4, 5, 19], 324)
 QUANTITY = 336
 # Answers of a length of their own, by what stands behind their head: bytes, rows, distinct values.
 HEADED = {24: 1, 25: 176, 26: 176, 28: 16}
 KNOTS = {28, 29}
-LAST = 29
+LAST = 31
 REFUSALS = range(1, 17)
 
 

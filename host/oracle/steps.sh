@@ -1,7 +1,7 @@
 # The steps of `run`, sourced with $here, $root, $build, $published and $streams set.
 
 # The codes that `calls` answers, every other being an unknown one to it; and those that are asked.
-standing=$(seq -s, 1 29)
+standing=$(seq -s, 1 31)
 asked=${ORACLE_CODES:-$standing}
 
 # The stored records stand beside the program that answers them again.
@@ -82,11 +82,11 @@ depths() {
     done
 }
 
-# wrong [list] [files] [halves] [merged] [knots]: how many answers each wrong reading changes, in 60,000 generated
-# requests and in stored records; of 01, which the Rust judges, and of 02's orders 1 to 4, which the right reading judges
+# wrong [list] [files] [halves] [merged] [knots] [counted]: how many answers each wrong reading changes, in 60,000 generated
+# requests and in stored records; of 01, which the Rust judges, and of 02's orders 1 to 5, which the right reading judges
 wrong() {
     local word
-    [ $# -gt 0 ] || set -- list files halves merged knots
+    [ $# -gt 0 ] || set -- list files halves merged knots counted
     for word in "$@"; do "wrong_$word"; done
 }
 
@@ -123,6 +123,12 @@ wrong_knots() {
     program generate 2 10000 --calls 28,29 --faults 0 --wild >>"$streams/requests"
     program oracle --reading <"$streams/requests" >"$streams/right"
     wrong_table knots "wrong reading of order 4" "the stored records" "$records/edges-knots.bin"
+}
+
+wrong_counted() {
+    program generate 1 60000 --calls 30,31 --faults 0 >"$streams/requests"
+    program oracle --reading <"$streams/requests" >"$streams/right"
+    wrong_table counted "wrong reading of order 5" "the stored records" "$records/edges-counted.bin"
 }
 
 # wrong_table WORD TITLE LIST FILE ..: a line for each wrong reading that wrong.py lists under the word
@@ -318,7 +324,8 @@ edges() {
     python3 -B "$here/halves.py" write "$records"
     python3 -B "$here/merged.py" write "$records"
     python3 -B "$here/knots.py" write "$records"
-    for name in limits admissions halves merged knots; do
+    python3 -B "$here/counted.py" write "$records"
+    for name in limits admissions halves merged knots counted; do
         program store split "$streams/requests" "$streams/stored" "$records/edges-$name.bin"
         program oracle <"$streams/requests" >"$streams/rust"
         program oracle --reading <"$streams/requests" >"$streams/reading"
@@ -372,7 +379,7 @@ named_file() {
 stream() {
     local folder=$root/crates/calls
     python3 -B "$here/knots.py" longest >"$streams/requests"
-    program generate 7000 160 --calls "$standing" --rows 3 --faults 30 >>"$streams/requests"
+    program generate 7015 160 --calls "$standing" --rows 3 --faults 30 >>"$streams/requests"
     head -c -100 "$streams/requests" >"$folder/stdin"
     program oracle --reading --standing "$standing" <"$folder/stdin" >"$folder/stdout"
     program compare "$folder/stdin" "$folder/stdout" "$folder/stdout"

@@ -1,5 +1,5 @@
 #!/usr/bin/env python3
-# Puts one wrong reading of 01, or of 02's orders 1 to 4, into a copy of the folder `scope`, to see whether generated
+# Puts one wrong reading of 01, or of 02's orders 1 to 5, into a copy of the folder `scope`, to see whether generated
 # requests and the stored list show it. Each is an exact text put for another that must stand there once.
 #
 #   wrong.py list              names all of 01
@@ -7,6 +7,7 @@
 #   wrong.py halves            names all of 02's order 2
 #   wrong.py merged            names all of 02's order 3
 #   wrong.py knots             names all of 02's order 4
+#   wrong.py counted           names all of 02's order 5
 #   wrong.py NAME FOLDER       writes the copy with that one
 import pathlib
 import shutil
@@ -15,15 +16,16 @@ import sys
 HERE = pathlib.Path(__file__).parent
 GREATER = "place(a).cmp(&place(b)).then(a.exponent.compared(b.exponent))"
 NEGATIVE = "(false, false) => Some(if own_smaller { target } else { own })"
-OWN_SCALE = "let own_scale = scale(&table.rows, &own_left)?;"
+OWN_SCALE = "let own_scale = scale_counted(&table.rows, &own_left)?;"
+TARGET_SCALE = "let target_scale = scale_counted(&table.rows, &target_left)?;"
 DIFFERENCE = "Ok(Quantity { value: -b.value, ..b.clone() })"
-RESULT = "Ok(value * own_scale / scale(&table.rows, &target_left)?)"
+RESULT = "let value = value * own_scale.value / target_scale.value;"
 
 WRONG = {
     "own-list-merged": ("conversion.rs", OWN_SCALE, OWN_SCALE.replace("&own_left", "&canonical(table, &own_left)?")),
-    "target-not-merged": ("conversion.rs", RESULT, RESULT.replace("&target_left", "&joined(target, &common)")),
+    "target-not-merged": ("conversion.rs", TARGET_SCALE, TARGET_SCALE.replace("&target_left", "&joined(target, &common)")),
     "common-of-negatives": ("conversion.rs", NEGATIVE, "(false, false) => Some(if own_smaller { own } else { target })"),
-    "scales-divided-first": ("conversion.rs", RESULT, "Ok(value * (own_scale / scale(&table.rows, &target_left)?))"),
+    "scales-divided-first": ("conversion.rs", RESULT, "let value = value * (own_scale.value / target_scale.value);"),
     "units-before-zero": ("conversion.rs", " || value == 0.0", ""),
     "first-on-a-tie": ("simplification.rs", GREATER, GREATER + ".then(std::cmp::Ordering::Greater)"),
     "base-not-greater": ("simplification.rs", GREATER, "a.exponent.compared(b.exponent)"),
@@ -190,9 +192,9 @@ MERGED = {
     "own-form-after-target's": ("conversion.rs", FORMS, FORMS_TURNED),
     "own-left-after-target-left": ("conversion.rs", OWN_LEFT, TARGET_LEFT + OWN_LEFT),
     "own-left-after-its-base": ("conversion.rs", OWN_LEFT, f"base_exponents(&table.rows, {OWN_GIVEN})?;" + OWN_LEFT),
-    "fraction-before-units": ("conversion.rs", UNLIKE, "scale(&table.rows, &own_left)?;" + UNLIKE),
+    "fraction-before-units": ("conversion.rs", UNLIKE, "scale_counted(&table.rows, &own_left)?;" + UNLIKE),
     "zero-not-kept": ("conversion.rs", " || value == 0.0", ""),
-    "divided-before-multiplied": ("conversion.rs", RESULT, "Ok(value / scale(&table.rows, &target_left)? * own_scale)"),
+    "divided-before-multiplied": ("conversion.rs", RESULT, "let value = value / target_scale.value * own_scale.value;"),
     "target-in-canonical-order": ("calls.rs", CALLED, CALLED.replace(", target)", ", canonical(&a.table, &target)?)")),
     "mark-not-set": ("calls.rs", CALLED, "Quantity { mark: q.mark, .." + CALLED + "}"),
     "sums-by-order-3": ("sums.rs", CONVERTED, "use crate::conversion::converted_merged as converted;"),
@@ -287,15 +289,73 @@ KNOTS = {
     "infinite-divisor-refused": ("knots.rs", QUOTIENT, ENDLESS + QUOTIENT),
 }
 
+# Of order 5: where a multiplication is counted, which factors are, what counts 0.
+POWERED = "else { r }, count }"
+MULTIPLIED = "r *= a;\n            count += 1;"
+SQUARED = "a *= a;\n        count += 1;"
+BY_FACTOR = "scale.count += prefix.count + raised.count;"
+WHOLE = "true => power_counted(base, p.exponent.num),"
+EXACTLY_1 = "false if base == 1.0 => Counted { value: 1.0, count: 0 },"
+BOTH = "own_scale.count + target_scale.count"
+ONCE = "if own_left.starts_with(own) { scale_counted(&table.rows, own)?.count } else { own_scale.count }"
+UNMERGED = "scale_counted(&table.rows, &joined(target, &common)).map_or(target_scale.count, |scale| scale.count)"
+KEPT = "return Ok(Counted { value, count: 0 });"
+RAISED = "[own, target].iter().filter_map(|l| scale_counted(&table.rows, l).ok()).map(|s| s.count).sum()"
+BY_01 = "in_steps(table, value, own, target, Ok)"
+BY_ORDER_3 = "in_steps(table, value, own, target, |left| canonical(table, &left))"
+REFUSED = "Err(refusal) => Answer::refused(number(refusal)),"
+A_COUNT = "Err(7) if request.code >= CONVERT_TO_COUNTED => Answer { number: 7, bytes: vec![1; 344] },\n        "
+MADE = "record(&fresh(answer.value, target))"
+
+
+def raised_unless(case):
+    return KEPT.replace("count: 0", f"count: if {case} {{ 0 }} else {{ {RAISED} }}")
+
+
+def counted_by(rule, other):
+    return f"{rule}.map(|one| Counted {{ count: {other}.map_or(one.count, |other| other.count), ..one }})"
+
+
+COUNTED = {
+    "inverse-counted": ("reduction.rs", POWERED, POWERED.replace("count }", "count: count + (n < 0) as u32 }")),
+    "power-of-0-counts": ("reduction.rs", POWERED, POWERED.replace("count }", "count: count.max(1) }")),
+    "minus-one-left-out": ("reduction.rs", POWERED, POWERED.replace("count }", "count: count + (n != 0) as u32 }")),
+    "times-1-not-counted": ("reduction.rs", POWERED, POWERED.replace("count }", "count: count - (n != 0) as u32 }")),
+    "set-bits-only": ("reduction.rs", SQUARED, "a *= a;"),
+    "squares-only": ("reduction.rs", MULTIPLIED, "r *= a;"),
+    "prefixes-left-out": ("reduction.rs", BY_FACTOR, "scale.count += raised.count;"),
+    "zero's-prefix-left-out": ("reduction.rs", BY_FACTOR, "if p.exponent != ZERO { " + BY_FACTOR + " }"),
+    "root's-prefix-left-out": ("reduction.rs", BY_FACTOR, "if p.exponent.is_whole() { " + BY_FACTOR + " }"),
+    "root-of-1-counted": ("reduction.rs", EXACTLY_1, "false if base == 1.0 => power_counted(base, p.exponent.num),"),
+    "power-of-1-left-out": ("reduction.rs", WHOLE, EXACTLY_1.replace("false", "true") + WHOLE),
+    "size-counted": ("reduction.rs", BY_FACTOR, BY_FACTOR + "scale.count += (p.prefix.n != 0) as u32;"),
+    "running-product-counted": ("reduction.rs", BY_FACTOR, BY_FACTOR + "scale.count += 1;"),
+    "row-scales-counted": ("reduction.rs", BY_FACTOR, BY_FACTOR + "scale.count += rows[p.row].tree as u32 - 1;"),
+    "value's-operations-counted": ("conversion.rs", BOTH, BOTH + " + 2"),
+    "own-scale-alone": ("conversion.rs", BOTH, "own_scale.count"),
+    "target's-scale-alone": ("conversion.rs", BOTH, "target_scale.count"),
+    "common-counted-once": ("conversion.rs", BOTH, BOTH.replace("own_scale.count", ONCE)),
+    "target-not-merged-for-the-count": ("conversion.rs", BOTH, BOTH.replace("target_scale.count", UNMERGED)),
+    "merged-for-both-counts": ("conversion.rs", BY_01, counted_by(BY_01, "counted_merged(table, value, own, target)")),
+    "merged-for-neither-count": ("conversion.rs", BY_ORDER_3, counted_by(BY_ORDER_3, "counted(table, value, own, target)")),
+    "equal-lists-counted": ("conversion.rs", KEPT, raised_unless("value == 0.0")),
+    "zero-counted": ("conversion.rs", KEPT, raised_unless("own_form == target_form")),
+    "fraction-with-a-count": ("calls.rs", REFUSED, A_COUNT + REFUSED),
+    "the-other-rule": ("calls.rs", "if code == CONVERT_TO_COUNTED {", "if code != CONVERT_TO_COUNTED {"),
+    "mark-kept": ("calls.rs", MADE, "record(&Quantity { mark: q.mark, ..fresh(answer.value, target) })"),
+    "target-made-canonical": ("calls.rs", MADE, MADE.replace("target", "canonical(&a.table, &target)?")),
+    "count-in-a-byte": ("calls.rs", "count: answer.count }", "count: answer.count % 256 }"),
+}
+
 
 def main():
-    names = {"list": WRONG, "files": FILES, "halves": HALVES, "merged": MERGED, "knots": KNOTS}
+    names = {"list": WRONG, "files": FILES, "halves": HALVES, "merged": MERGED, "knots": KNOTS, "counted": COUNTED}
     if len(sys.argv) == 2:
         print("\n".join(names[sys.argv[1]]))
         return
     name, folder = sys.argv[1], pathlib.Path(sys.argv[2])
     shutil.copytree(HERE / "scope", folder)
-    file, old, new = (WRONG | FILES | HALVES | MERGED | KNOTS)[name]
+    file, old, new = (WRONG | FILES | HALVES | MERGED | KNOTS | COUNTED)[name]
     text = (folder / file).read_text()
     if text.count(old) != 1:
         sys.exit(f"wrong: {name} applies {text.count(old)} times")

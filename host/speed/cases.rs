@@ -77,6 +77,15 @@ impl Over<'_> {
         ]
     }
 
+    /// Sixteen factors on either side, powers and prefixes near their limits: 61 multiplications for each, and 15 to 19.
+    fn powers(&self) -> Case {
+        let side = |sign: i32| -> Vec<Part> {
+            let factor = |at| ("metre", sign * (1023 - at), if at % 2 == 0 { i32::MAX } else { -i32::MAX });
+            (0..16).map(factor).collect()
+        };
+        self.case("16 factors to 16, large powers", 9, [self.of(1.5, &side(1)), self.list(&side(-1))])
+    }
+
     fn arithmetic(&self) -> Vec<Case> {
         vec![
             self.case("hour and minute", 10, [self.of(1.0, HOUR), self.of(30.0, MINUTE)]),
@@ -157,6 +166,11 @@ pub fn conversions(named: &Named) -> Vec<Case> {
     let over = Over(named);
     let all = over.conversions().into_iter().filter(|case| case.request.code == 9);
     all.chain(over.cancelling()).collect()
+}
+
+/// Conversions for counting: those for both rules, and one of large powers.
+pub fn counted(named: &Named) -> Vec<Case> {
+    conversions(named).into_iter().chain([Over(named).powers()]).collect()
 }
 
 /// The calls on a table's file, behind one that does hardly more than admit the table.

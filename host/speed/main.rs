@@ -1,8 +1,8 @@
 // The archive's exported calls against the published Rust's own, in one process: times, growth, depth of the stack. The
 // calls on table files are timed against `negate`, `convert_merged` against `convert_to`, those on knots against one
-// conversion.
+// conversion, conversions with a count against those without.
 //
-//   speed [compare] [files] [merged] [knots] [growth] [stack] [--round MILLISECONDS]
+//   speed [compare] [files] [merged] [knots] [counted] [growth] [stack] [--round MILLISECONDS]
 //                                                     all unless said; a round is 20 milliseconds
 //
 // Ends with 1 if the answers to a timed request differ, or a call needs 512 KiB of stack or more. Under an emulator
@@ -10,6 +10,7 @@
 #[path = "../by_code.rs"]
 mod by_code;
 mod cases;
+mod counted;
 mod files;
 mod growth;
 mod knots;
@@ -81,6 +82,7 @@ fn depths() -> Result<(), String> {
     }
     deepest.insert(27, merged::depth());
     deepest.extend((28..).zip(knots::depths()));
+    deepest.extend((30..).zip(counted::depths()));
     println!("\n| call, over 128 rows | stack, bytes |\n|---|---|");
     deepest.iter().for_each(|(code, depth)| println!("| {code} {} | {depth} |", name(*code)));
     match deepest.values().max() {
@@ -94,7 +96,7 @@ fn run() -> Result<(), String> {
     let (mut parts, mut given) = (Vec::new(), std::env::args().skip(1));
     while let Some(argument) = given.next() {
         match argument.as_str() {
-            "compare" | "files" | "merged" | "knots" | "growth" | "stack" => parts.push(argument),
+            "compare" | "files" | "merged" | "knots" | "counted" | "growth" | "stack" => parts.push(argument),
             "--round" => {
                 let number = given.next().and_then(|n| n.parse().ok()).ok_or("--round MILLISECONDS")?;
                 round = Duration::from_millis(number);
@@ -114,6 +116,9 @@ fn run() -> Result<(), String> {
     }
     if wanted("knots") {
         knots::compare(round)?;
+    }
+    if wanted("counted") {
+        counted::compare(round)?;
     }
     if wanted("growth") {
         grow(round)?;

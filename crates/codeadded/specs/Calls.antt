@@ -5,6 +5,7 @@ use Rattle.wiretables.specs.Arguments.{wordFrom}
 use Rattle.askfiles.specs.Calls as files
 use Rattle.askconversions.specs.Calls as conversions
 use Rattle.askknots.specs.Calls as knots
+use Rattle.askcounted.specs.Calls as counted
 
 unfoldable pub calls : List Call
 calls =
@@ -14,4 +15,6 @@ calls =
     ∷ three 27 conversions.convertMerged
     ∷ three 28 knots.knotVector
     ∷ three 29 knots.spanQuotient
+    ∷ three 30 counted.convertToCounted
+    ∷ three 31 counted.convertMergedCounted
     ∷ []

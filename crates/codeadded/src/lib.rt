@@ -9,7 +9,7 @@ use replies::Reply;
 use wiretables::word;
 
 // By code, how many arguments a call has: 0 for none of these.
-const ARITIES: [u32; 30] = [
+const ARITIES: [u32; 32] = [
     0,
     0,
     0,
@@ -37,6 +37,8 @@ const ARITIES: [u32; 30] = [
     2,
     2,
     2,
+    3,
+    3,
     3,
     3,
     3,
@@ -45,7 +47,7 @@ const ARITIES: [u32; 30] = [
 pub fn arity(code: u32) -> u32
     ensures { λ r. ⌜ (r ≡ look calls code .arity) × (r ≤ 3) ⌝ }
 {
-    if code < 30 { ARITIES[code as usize] } else { 0 }
+    if code < 32 { ARITIES[code as usize] } else { 0 }
 }
 
 // The call with this code; its arguments are the first of these.
@@ -59,6 +61,8 @@ pub fn call(code: u32, a: &[u8], b: &[u8], c: &[u8], out: &mut [u8]) -> Reply
         27 => askconversions::convert_merged(a, b, c, out),
         28 => askknots::knot_vector(a, b, c, out),
         29 => askknots::span_quotient(a, b, c, out),
+        30 => askcounted::convert_to_counted(a, b, c, out),
+        31 => askcounted::convert_merged_counted(a, b, c, out),
         _ => replies::refused(SHAPE),
     }
 }

@@ -1,4 +1,5 @@
 pub mod Rating
+pub mod Forgetting
 pub mod Converting
 pub mod Refusals
 pub mod Cases

@@ -1,4 +1,4 @@
-// A value converted from one resolved list to another (01, "Conversion, sums, comparison"; 02, order 3): RANGE or DENOMINATOR, then UNITS, then FRACTION.
+// A value converted from one resolved list to another (01, "Conversion, sums, comparison"; 02, orders 3 and 5): RANGE or DENOMINATOR, then UNITS, then FRACTION.
 ghost use mathlib.Core.Path.{_≡_};
 ghost use mathlib.Core.Bool.{true};
 ghost use mathlib.Core.List.{List, _++_};
@@ -7,14 +7,16 @@ ghost use lib.Ieee.{Float};
 ghost use Rattle.exponents.specs.Outcome.{given, bind};
 ghost use Rattle.floats.specs.Values.{isZero};
 ghost use Rattle.units.specs.declared.Factor.{Factor as Factorᵛ};
-ghost use Rattle.tables.specs.Rules.{scaleBy};
-ghost use Rattle.tables.specs.Held.{scaledOf, View, Resolved, Lends, rulesBy};
+ghost use Rattle.floats.specs.Power.{tally};
+ghost use Rattle.tables.specs.Rules.{scaleBy, counted};
+ghost use Rattle.tables.specs.Held.{talliedOf, Within, View, Resolved, Lends, rulesBy};
 ghost use Rattle.conversion.specs.Conversion as spec;
-ghost use Rattle.conversion.specs.Held.{readyIf, convertedOf, refusedBy, unscaled, scaledBy, unrated, kept, scalesAlone, ratedBy};
+ghost use Rattle.conversion.specs.Held.{readyIf, convertedOf, refusedBy, unscaled, scaledBy, tallyBy, unrated, kept, scalesAlone, ratedBy, tookBy, countedBy};
 ghost use Rattle.common.specs.Held.{lessen};
 use exponents::refusals::UNITS;
+use floats::Tally;
 use tables::Items;
-use tables::scales::Scaled;
+use tables::scales::Tallied;
 
 // A value, or the number of the refusal.
 pub enum Converted {
@@ -34,10 +36,11 @@ pub fn refusal_of(c: Converted) -> u32
 
 // ---- the two scales by which any value is converted
 
-// The own scale and the target's; or the number of the refusal of any value.
+// The own scale and the target's, and the multiplications that both took (02, order 5); or the number of the refusal of any value.
 pub struct Scales {
     pub own: f64,
     pub target: f64,
+    pub count: u32,
     pub refusal: u32,
 }
 
@@ -47,6 +50,7 @@ fn no_scales(refusal: u32) -> Scales
     Scales {
         own: 1.0,
         target: 1.0,
+        count: 0,
         refusal: refusal,
     }
 }
@@ -63,28 +67,30 @@ fn scaled(s: Scales, x: f64) -> Converted
 }
 
 // The own scale a and the scale of t.
-fn rescaled(a: Scaled, t: Items) -> Scales
-    ensures { λ r. ⌜ ((v : View) (n : ℕ) (own ts : List Factorᵛ) → a ≡ scaledOf (scaleBy (rulesBy v n) own) → Resolved v t ts → (x : Float) → scaledBy r x ≡ convertedOf (spec.rescaled (rulesBy v n) own ts x)) ⌝ }
+fn rescaled(a: Tallied, t: Items) -> Scales
+    requires { ⌜ Within 3904 a ⌝ }
+    ensures { λ r. ⌜ ((v : View) (n : ℕ) (own ts : List Factorᵛ) → a ≡ talliedOf (scaleBy (counted (rulesBy v n)) own) → Resolved v t ts → (x : Float) → tallyBy r x ≡ talliedOf (spec.rescaled (counted (rulesBy v n)) own ts (tally x 0))) ⌝ }
 {
     match a {
-        Scaled::Value(own) => {
-            let b = reduction::bases::scale_from(1.0, t);
+        Tallied::Value(own) => {
+            let b = reduction::bases::counted_scale(1.0, t);
             match b {
-                Scaled::Value(target) => Scales {
-                    own: own,
-                    target: target,
+                Tallied::Value(target) => Scales {
+                    own: own.value,
+                    target: target.value,
+                    count: own.count + target.count,
                     refusal: 0,
                 },
-                Scaled::Refused(r) => no_scales(r),
+                Tallied::Refused(r) => no_scales(r),
             }
         }
-        Scaled::Refused(r) => no_scales(r),
+        Tallied::Refused(r) => no_scales(r),
     }
 }
 
 // Between lists that have no factors in common: m is the target's canonical form.
 fn apart(l: Items, m: Items, n: usize, nums: &[i32], dens: &[u32]) -> Scales
-    ensures { λ r. ⌜ ((v : View) (fs gs : List Factorᵛ) → Lends v n (now (nums .entry)) (now (dens .entry)) → Resolved v l fs → Resolved v m gs → (x : Float) → scaledBy r x ≡ convertedOf (spec.against (rulesBy v n) fs (given gs) x)) ⌝ }
+    ensures { λ r. ⌜ ((v : View) (fs gs : List Factorᵛ) → Lends v n (now (nums .entry)) (now (dens .entry)) → Resolved v l fs → Resolved v m gs → (x : Float) → tallyBy r x ≡ talliedOf (spec.against (counted (rulesBy v n)) fs (given gs) (tally x 0))) ⌝ }
 {
     let a = reduction::bases::base_of(l, n, nums, dens);
     if a.refusal != 0 {
@@ -99,13 +105,13 @@ fn apart(l: Items, m: Items, n: usize, nums: &[i32], dens: &[u32]) -> Scales
     if !reduction::bases::same_exponents(p, q) {
         return no_scales(UNITS);
     }
-    let s = reduction::bases::scale_from(1.0, l);
+    let s = reduction::bases::counted_scale(1.0, l);
     rescaled(s, m)
 }
 
 // Between lists that differ: c has their common factors, inverted, and m is the target's canonical form. The own list over c is not merged.
 fn unlike(l: Items, m: Items, c: Items, n: usize, nums: &[i32], dens: &[u32]) -> Scales
-    ensures { λ r. ⌜ ((v : View) (fs gs cs : List Factorᵛ) → Lends v n (now (nums .entry)) (now (dens .entry)) → Resolved v l fs → Resolved v m gs → Resolved v c cs → (x : Float) → scaledBy r x ≡ convertedOf (spec.against (rulesBy v n) (fs ++ cs) (lessen (v .order) gs cs) x)) ⌝ }
+    ensures { λ r. ⌜ ((v : View) (fs gs cs : List Factorᵛ) → Lends v n (now (nums .entry)) (now (dens .entry)) → Resolved v l fs → Resolved v m gs → Resolved v c cs → (x : Float) → tallyBy r x ≡ talliedOf (spec.against (counted (rulesBy v n)) (fs ++ cs) (lessen (v .order) gs cs) (tally x 0))) ⌝ }
 {
     let a = reduction::bases::base_exponents(l, c, n, nums, dens);
     if a.refusal != 0 {
@@ -131,7 +137,7 @@ fn unlike(l: Items, m: Items, c: Items, n: usize, nums: &[i32], dens: &[u32]) ->
 
 // Between lists that differ: c has their common factors, inverted, and l and m are canonical forms. Both are merged over c.
 fn lessening(l: Items, m: Items, c: Items, n: usize, nums: &[i32], dens: &[u32]) -> Scales
-    ensures { λ r. ⌜ ((v : View) (fs gs cs : List Factorᵛ) → Lends v n (now (nums .entry)) (now (dens .entry)) → Resolved v l fs → Resolved v m gs → Resolved v c cs → (x : Float) → scaledBy r x ≡ convertedOf (bind (lessen (v .order) fs cs) (λ own. spec.against (rulesBy v n) own (lessen (v .order) gs cs) x))) ⌝ }
+    ensures { λ r. ⌜ ((v : View) (fs gs cs : List Factorᵛ) → Lends v n (now (nums .entry)) (now (dens .entry)) → Resolved v l fs → Resolved v m gs → Resolved v c cs → (x : Float) → tallyBy r x ≡ talliedOf (bind (lessen (v .order) fs cs) (λ own. spec.against (counted (rulesBy v n)) own (lessen (v .order) gs cs) (tally x 0)))) ⌝ }
 {
     let o = common::lessened(l, c);
     if o.refusal != 0 {
@@ -167,6 +173,7 @@ pub fn no_rate(refusal: u32) -> Rate
     let s = Scales {
         own: 1.0,
         target: 1.0,
+        count: 0,
         refusal: 0,
     };
     Rate {
@@ -183,6 +190,7 @@ fn keeping() -> Rate
     let s = Scales {
         own: 1.0,
         target: 1.0,
+        count: 0,
         refusal: 0,
     };
     Rate {
@@ -217,6 +225,29 @@ pub fn rated(r: Rate, x: f64) -> Converted
     scaled(s, x)
 }
 
+// The multiplications that x takes: none if it stays as it is.
+fn took(r: Rate, x: f64) -> u32
+    ensures { λ k. ⌜ k ≡ tookBy r x ⌝ }
+{
+    if floats::is_zero(x) | r.keeps {
+        return 0;
+    }
+    let s = r.scales;
+    s.count
+}
+
+// x converted, with the multiplications that it took; a refusal has none.
+pub fn tallied(r: Rate, x: f64) -> Tallied
+    ensures { λ c. ⌜ c ≡ countedBy r x ⌝ }
+{
+    let k = took(r, x);
+    let c = rated(r, x);
+    match c {
+        Converted::Value(y) => Tallied::Value(Tally { value: y, count: k }),
+        Converted::Refused(n) => Tallied::Refused(n),
+    }
+}
+
 // From the list l to the list m, where there are n base rows. If `zero` says so it is for zeros alone. The own list over
 // the common factors is merged too if `merging` says so.
 fn by_rule(
@@ -228,7 +259,7 @@ fn by_rule(
     nums: &[i32],
     dens: &[u32],
 ) -> Rate
-    ensures { λ r. ⌜ ((v : View) (fs gs : List Factorᵛ) → Lends v n (now (nums .entry)) (now (dens .entry)) → Resolved v l fs → Resolved v m gs → (x : Float) → (zero ≡ true → isZero x ≡ true) → ratedBy r x ≡ convertedOf (spec.convertBy (rulesBy v n) (readyIf (v .order) merging) fs gs x)) ⌝ }
+    ensures { λ r. ⌜ ((v : View) (fs gs : List Factorᵛ) → Lends v n (now (nums .entry)) (now (dens .entry)) → Resolved v l fs → Resolved v m gs → (x : Float) → (zero ≡ true → isZero x ≡ true) → countedBy r x ≡ talliedOf (spec.convertBy (counted (rulesBy v n)) (readyIf (v .order) merging) fs gs (tally x 0))) ⌝ }
 {
     let a = canonical::form::canonical(l);
     if a.refusal != 0 {
@@ -270,6 +301,28 @@ pub fn cancelling(x: f64, l: Items, m: Items, n: usize, nums: &[i32], dens: &[u3
 {
     let z = floats::is_zero(x);
     rated(by_rule(l, m, z, true, n, nums, dens), x)
+}
+
+// Either, with the multiplications that it took (02, order 5).
+pub fn convert_counted(x: f64, l: Items, m: Items, n: usize, nums: &[i32], dens: &[u32]) -> Tallied
+    ensures { λ r. ⌜ ((v : View) (fs gs : List Factorᵛ) → Lends v n (now (nums .entry)) (now (dens .entry)) → Resolved v l fs → Resolved v m gs → r ≡ talliedOf (spec.convert (counted (rulesBy v n)) fs gs (tally x 0))) ⌝ }
+{
+    let z = floats::is_zero(x);
+    tallied(by_rule(l, m, z, false, n, nums, dens), x)
+}
+
+pub fn cancelling_counted(
+    x: f64,
+    l: Items,
+    m: Items,
+    n: usize,
+    nums: &[i32],
+    dens: &[u32],
+) -> Tallied
+    ensures { λ r. ⌜ ((v : View) (fs gs : List Factorᵛ) → Lends v n (now (nums .entry)) (now (dens .entry)) → Resolved v l fs → Resolved v m gs → r ≡ talliedOf (spec.cancelling (counted (rulesBy v n)) fs gs (tally x 0))) ⌝ }
+{
+    let z = floats::is_zero(x);
+    tallied(by_rule(l, m, z, true, n, nums, dens), x)
 }
 
 // That of any value: what is done for the lists is done once.

@@ -1,5 +1,5 @@
 // The library as it ships: the calls over lent rows, passed on here, and as exported C functions over bytes, in `exports`,
-// `files` and `knots`.
+// `files`, `knots` and `counted`.
 pub use lentcalls::abs;
 pub use lentcalls::add;
 pub use lentcalls::canonical;
@@ -7,7 +7,9 @@ pub use lentcalls::checked_div;
 pub use lentcalls::checked_power;
 pub use lentcalls::compare;
 pub use lentcalls::convert_merged;
+pub use lentcalls::convert_merged_counted;
 pub use lentcalls::convert_to;
+pub use lentcalls::convert_to_counted;
 pub use lentcalls::equal;
 pub use lentcalls::full_simplify;
 pub use lentcalls::full_simplify_with;
@@ -33,3 +35,4 @@ pub use lentknots::span_quotient;
 pub mod exports; // every call of 01, and 02's conversions, as C functions over bytes
 pub mod files; // the calls on table files as C functions over bytes
 pub mod knots; // the calls on knot vectors as C functions over bytes
+pub mod counted; // the counted conversions as C functions over bytes

@@ -33,7 +33,7 @@ pub record Inside (n : ℕ) (f : Shelf) : Type 0 where
 
 -- what a read past the end of a shelf would be
 abbrev pub absent : Rate
-absent = record { scales = record { own = nan; target = nan; refusal = 0 }; refusal = 0; keeps = false }
+absent = record { scales = record { own = nan; target = nan; count = 0; refusal = 0 }; refusal = 0; keeps = false }
 
 -- and each conversion there is that of the unit at its place
 pub record Shelved (t : Rows) (m : Factors) (s : List ℕ) (f : Shelf) : Type 0 where

@@ -15,6 +15,8 @@ use Rattle.reduction.proofs.multiples.Multiple as MultipleT
 use Rattle.reduction.proofs.multiples.Multiple.Laws as MultipleL
 use Rattle.values.proofs.answers.Answer as AnswerT
 use Rattle.values.proofs.answers.Answer.Laws as AnswerL
+use Rattle.counted.proofs.Counted as CountedT
+use Rattle.counted.proofs.Counted.Laws as CountedL
 use Rattle.quantities.proofs.comparisons.Compared as ComparedT
 use Rattle.quantities.proofs.comparisons.Compared.Laws as ComparedL
 use denote.Struct.Declared as struct
@@ -40,6 +42,9 @@ reduced = struct-by ReducedT.the-type ReducedL.the-laws ReducedL.the-copy
 
 abbrev pub answer : By (struct.row AnswerT.the-type)
 answer = struct-by AnswerT.the-type AnswerL.the-laws AnswerL.the-copy
+
+abbrev pub counted : By (struct.row CountedT.the-type)
+counted = struct-by CountedT.the-type CountedL.the-laws CountedL.the-copy
 
 -- ---- enums
 

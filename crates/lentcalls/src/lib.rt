@@ -13,11 +13,14 @@ ghost use Rattle.values.specs.Quantities.{answeredOf};
 ghost use Rattle.values.specs.Calls as values;
 ghost use Rattle.quantities.specs.Comparisons.{comparedOf};
 ghost use Rattle.quantities.specs.Calls as quantities;
+ghost use Rattle.counted.specs.Calls as counted;
+ghost use Rattle.counted.specs.Calls.{countedOf};
 ghost use Rattle.sums.specs.Calls as sums;
 ghost use Rattle.powers.specs.Calls as powers;
 ghost use Rattle.simplification.specs.Calls as simplification;
 ghost use Rattle.registry.specs.Calls as registry;
 use canonical::equality::Verdict;
+use counted::Counted;
 use exponents::Exponent;
 use quantities::comparisons::Compared;
 use reduction::multiples::Multiple;
@@ -142,6 +145,22 @@ pub fn convert_merged(rows: &[Row], q: Quantity, target: Factors) -> Answer
 {
     quantities::conversions::convert_merged(lent::rows_of(rows), q, target)
 }
+
+// ---- with the multiplications that they take (02, order 5)
+
+pub fn convert_to_counted(rows: &[Row], q: Quantity, target: Factors) -> Counted
+    ensures { λ r. ⌜ r ≡ countedOf (counted.convertToCounted (lentRows (now (rows .entry))) q target) ⌝ }
+{
+    counted::convert_to_counted(lent::rows_of(rows), q, target)
+}
+
+pub fn convert_merged_counted(rows: &[Row], q: Quantity, target: Factors) -> Counted
+    ensures { λ r. ⌜ r ≡ countedOf (counted.convertMergedCounted (lentRows (now (rows .entry))) q target) ⌝ }
+{
+    counted::convert_merged_counted(lent::rows_of(rows), q, target)
+}
+
+// ---- sums, products and powers
 
 pub fn add(rows: &[Row], q: Quantity, p: Quantity) -> Answer
     ensures { λ r. ⌜ r ≡ answeredOf (sums.add (lentRows (now (rows .entry))) q p) ⌝ }

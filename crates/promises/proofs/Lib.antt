@@ -19,6 +19,7 @@ pub mod Sizes
 pub mod Contents
 pub mod Misread
 pub mod Shipped
+pub mod Counted
 pub mod Shipping
 pub mod Merged
 pub mod Vectors

@@ -39,11 +39,11 @@ named-number ORDER = refl
 named-number MULTIPLE = refl
 named-number ARGUMENT = refl
 
-heard-answer : {A : Type 0} (a : A) → heard 0 a ≡ given a
+pub heard-answer : {A : Type 0} (a : A) → heard 0 a ≡ given a
 unfolding heard
 heard-answer a = refl
 
-heard-refusal : {A : Type 0} (r : Refusal) (a : A) → heard (number r) a ≡ refused r
+pub heard-refusal : {A : Type 0} (r : Refusal) (a : A) → heard (number r) a ≡ refused r
 unfolding heard
 heard-refusal r a = rw (ne-eqb (number r) 0 (λ e. omega (arith, number-pos r, e))) (ap refused (named-number r))
 

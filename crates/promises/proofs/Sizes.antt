@@ -47,6 +47,8 @@ use Rattle.askknots.specs.Records.{ruleFrom, spanFrom, vectorBytes}
 use Rattle.askknots.specs.Calls as askknots
 use Rattle.askknots.proofs.Stored.{vector-sized}
 use Rattle.askknots.proofs.Told.{few-runs}
+use Rattle.askcounted.specs.Records.{countedBytes}
+use Rattle.askcounted.specs.Calls as askcounted
 use Rattle.codeadded.specs.Calls as codeadded
 use Rattle.stream.specs.Calls.{calls, callOf}
 use Rattle.stream.specs.Stream.{longest, lent, answerTo, answered}
@@ -54,6 +56,7 @@ use Rattle.stream.proofs.Answering.{lent-length}
 use Rattle.promises.proofs.Rounded.{ValueFits}
 use Rattle.promises.proofs.Fitting as fitting
 use Rattle.promises.proofs.Fitting.{read-fits}
+use Rattle.promises.proofs.Counted.{CountedFits, counted-form, convert-counted-fits, merged-counted-fits}
 
 -- at most as long as a quantity
 abbrev pub Short : List ℕ → Type 0
@@ -150,8 +153,11 @@ file-bounded t room =
 rows-bounded : (other : ℕ) (rs : List Row) → length rs ≤ 128 → Full rs → NoLonger (askfiles.rowsReply other rs)
 rows-bounded other rs h k = omega (arith, rows-sized other rs k)
 
+counted-bounded : {o : Outcome (Quantity × ℕ)} → Holds CountedFits o → Holds NoLonger (apply countedBytes o)
+counted-bounded h = holds-map countedBytes h λ p k. omega (arith, counted-form .sized p k)
+
 added-bounded : Each NoLonger codeadded.calls
-unfolding codeadded.calls askfiles.readTable askfiles.salvageTable askconversions.convertMerged askknots.knotVector askknots.spanQuotient
+unfolding codeadded.calls askfiles.readTable askfiles.salvageTable askconversions.convertMerged askknots.knotVector askknots.spanQuotient askcounted.convertToCounted askcounted.convertMergedCounted
 added-bounded =
     (λ t r _. file-bounded t (wordFrom r))
     and (λ f p _. holds-map (askfiles.rowsReply 0) (holds-eq (files.readTable (wordFrom p) f)) λ rs e. rows-bounded 0 rs (read-few (wordFrom p) f rs e .0) (read-full (wordFrom p) f rs e))
@@ -159,6 +165,8 @@ added-bounded =
     and (λ t a b. holds-imp (quantity-short (fitting.merged-fits (tableFrom t) (quantityFrom a) (read-fits a) (listFrom b))) (λ l h. omega (arith, h)))
     and (λ t k u. holds-map vectorBytes (holds-eq (knots.knotVector (tableFrom t) (knotsIn k) (ruleFrom u))) λ rs e. omega (arith, vector-sized rs, few-runs (tableFrom t) k (ruleFrom u) rs e))
     and (λ t k a. holds-imp (sized valueBytes 8 (omega arith) value-sized (knots.spanQuotient (tableFrom t) (knotsIn k) (spanFrom a))) (λ l h. omega (arith, h)))
+    and (λ t a b. counted-bounded (convert-counted-fits (tableFrom t) (quantityFrom a) (read-fits a) (listFrom b)))
+    and (λ t a b. counted-bounded (merged-counted-fits (tableFrom t) (quantityFrom a) (read-fits a) (listFrom b)))
     and done
 
 module _ {P : List ℕ → Type 0} where

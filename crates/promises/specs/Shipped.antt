@@ -1,4 +1,4 @@
--- What a caller of the calls as they ship makes of an answer: the number that is told, and the quantity, the runs or the quotient beside it or in the room.
+-- What a caller of the calls as they ship makes of an answer: the number that is told, and the quantity, its count, the runs or the quotient beside it or in the room.
 use mathlib.Core.List.{List, [], _∷_}
 use Prim.Native.Nat.{ℕ, zero, suc, _+_}
 use lib.Dec.{eqb}
@@ -8,6 +8,8 @@ use Rattle.exponents.specs.Words.{pick}
 use Rattle.exponents.specs.Outcome.{Refusal, TABLE, SHAPE, UNKNOWN, ROOM, RANGE, UNITS, FRACTION, DIVZERO, ZERONEG, NONWHOLE, NAN, FORMAT, DENOMINATOR, ORDER, MULTIPLE, ARGUMENT, number, Outcome, given, refused}
 use Rattle.units.specs.declared.Quantity.{Quantity}
 use Rattle.values.specs.declared.answers.Answer.{Answer}
+use Rattle.counted.specs.declared.Counted.{Counted}
+use Rattle.askcounted.specs.Records.{countedAt}
 use Rattle.wire.specs.Bytes.{le, runAt}
 use Rattle.wire.specs.Records.{quantityAt}
 use Rattle.knotruns.specs.Runs.{Run, run}
@@ -36,6 +38,14 @@ outcomeIn r = heard (r .refusal) (r .quantity)
 -- from an exported call: the number that it returned, and what its room holds
 abbrev pub outcomeFrom : ℕ → List ℕ → Outcome Quantity
 outcomeFrom n end = heard n (quantityAt end 0)
+
+-- ---- counted conversions: the quantity, and the multiplications that it took
+
+abbrev pub countedIn : Counted → Outcome (Quantity × ℕ)
+countedIn r = heard (r .refusal) (r .quantity, r .count)
+
+abbrev pub countedFrom : ℕ → List ℕ → Outcome (Quantity × ℕ)
+countedFrom n end = heard n (countedAt end 0)
 
 -- ---- knot vectors and span quotients
 

@@ -19,31 +19,40 @@ use Rattle.conversion.specs.Conversion.{convert}
 use Rattle.conversion.specs.Held.{convertedOf}
 use Rattle.conversion.specs.declared.convert.Converted.{Converted}
 
--- what code promises of a conversion from l to m by f
+-- what code promises of what it hands over, h by a view's rules, for the lists l and m
+abbrev pub Hands : {C : Type 0} → (Rules Float → List Factor → List Factor → C) → List ℤ → List ℕ → Items → Items → ℕ → C → Type 0
+Hands h nums dens l m n c = (v : View) (fs gs : List Factor) → Lends v n nums dens → Resolved v l fs → Resolved v m gs → c ≡ h (rulesBy v n) fs gs
+
+-- of a conversion from l to m by f
 abbrev pub ConvertsBy : (Rules Float → List Factor → List Factor → Float → Outcome Float) → List ℤ → List ℕ → Float → Items → Items → ℕ → Converted → Type 0
-ConvertsBy f nums dens y l m n c = (v : View) (fs gs : List Factor) → Lends v n nums dens → Resolved v l fs → Resolved v m gs → c ≡ convertedOf (f (rulesBy v n) fs gs y)
+ConvertsBy f nums dens y = Hands (λ R fs gs. convertedOf (f R fs gs y)) nums dens
 
 -- and of 01's
 abbrev pub Converts : List ℤ → List ℕ → Float → Items → Items → ℕ → Converted → Type 0
 Converts = ConvertsBy (λ R. convert R)
 
 -- by the rules R, where the view's are these
-converted-so : (f : Rules Float → List Factor → List Factor → Float → Outcome Float) {nums : List ℤ} {dens : List ℕ} (R : Rules Float) (v : View) (n : ℕ) (l m : Items) (fs gs : List Factor) (y : Float) (c : Converted) →
-    rulesBy v n ≡ R → Lends v n nums dens → Resolved v l fs → Resolved v m gs → ConvertsBy f nums dens y l m n c → c ≡ convertedOf (f R fs gs y)
-converted-so f R v n l m fs gs y c e lent rl rm p = p v fs gs lent rl rm ∙ ap (λ R. convertedOf (f R fs gs y)) e
+handed-so : {C : Type 0} (h : Rules Float → List Factor → List Factor → C) {nums : List ℤ} {dens : List ℕ} (R : Rules Float) (v : View) (n : ℕ) (l m : Items) (fs gs : List Factor) (c : C) →
+    rulesBy v n ≡ R → Lends v n nums dens → Resolved v l fs → Resolved v m gs → Hands h nums dens l m n c → c ≡ h R fs gs
+handed-so h R v n l m fs gs c e lent rl rm p = p v fs gs lent rl rm ∙ ap (λ R. h R fs gs) e
+
+module _ {t : Rows} {a b : Factors} {x : Opened} (r : Ready t a b x) (nums : List ℤ) (dens : List ℕ) (tells : Tells t nums dens) {C : Type 0} (c : C) where
+  pub in-table : (h : Rules Float → List Factor → List Factor → C) (l m : Items) (fs gs : List Factor) → Resolved (seen r) l fs → Resolved (seen r) m gs → Hands h nums dens l m (x .slots .len) c → c ≡ h (rulesIn t (r .ks)) fs gs
+  in-table h l m fs gs = handed-so h (rulesIn t (r .ks)) (seen r) (x .slots .len) l m fs gs c (r .rules) (lends r nums dens tells)
+
+  -- from the first list to the second
+  pub forward : (h : Rules Float → List Factor → List Factor → C) → Hands h nums dens (x .a) (x .b) (x .slots .len) c → c ≡ h (rulesIn t (r .ks)) (r .fs) (r .gs)
+  forward h = in-table h (x .a) (x .b) (r .fs) (r .gs) (r .first) (r .second)
 
 module _ {t : Rows} {a b : Factors} {x : Opened} (r : Ready t a b x) (nums : List ℤ) (dens : List ℕ) (tells : Tells t nums dens) (y : Float) (c : Converted) where
-  in-table : (f : Rules Float → List Factor → List Factor → Float → Outcome Float) (l m : Items) (fs gs : List Factor) → Resolved (seen r) l fs → Resolved (seen r) m gs → ConvertsBy f nums dens y l m (x .slots .len) c → c ≡ convertedOf (f (rulesIn t (r .ks)) fs gs y)
-  in-table f l m fs gs = converted-so f (rulesIn t (r .ks)) (seen r) (x .slots .len) l m fs gs y c (r .rules) (lends r nums dens tells)
-
   -- the first list to the second
   pub forth : (f : Rules Float → List Factor → List Factor → Float → Outcome Float) → ConvertsBy f nums dens y (x .a) (x .b) (x .slots .len) c → c ≡ convertedOf (f (rulesIn t (r .ks)) (r .fs) (r .gs) y)
-  forth f = in-table f (x .a) (x .b) (r .fs) (r .gs) (r .first) (r .second)
+  forth f = forward r nums dens tells c (λ R fs gs. convertedOf (f R fs gs y))
 
   -- the second to the first
   pub back : Converts nums dens y (x .b) (x .a) (x .slots .len) c → c ≡ convertedOf (convert (rulesIn t (r .ks)) (r .gs) (r .fs) y)
-  back = in-table (λ R. convert R) (x .b) (x .a) (r .gs) (r .fs) (r .second) (r .first)
+  back = in-table r nums dens tells c (λ R fs gs. convertedOf (convert R fs gs y)) (x .b) (x .a) (r .gs) (r .fs) (r .second) (r .first)
 
   -- the second to scalar
   pub to-scalar : (u : Items) → u ≡ noItems → Converts nums dens y (x .b) u (x .slots .len) c → c ≡ convertedOf (convert (rulesIn t (r .ks)) (r .gs) [] y)
-  to-scalar u e = in-table (λ R. convert R) (x .b) u (r .gs) [] (r .second) (none-resolved (seen r) (r .second .placed) u e)
+  to-scalar u e = in-table r nums dens tells c (λ R fs gs. convertedOf (convert R fs gs y)) (x .b) u (r .gs) [] (r .second) (none-resolved (seen r) (r .second .placed) u e)

@@ -1,4 +1,4 @@
-// The base exponents and the scale of a resolved list, or of two joined (01, "Powers and scales").
+// The base exponents and the scale of a resolved list, or of two joined (01, "Powers and scales"); the scale with the multiplications that it takes (02, order 5).
 ghost use mathlib.Core.Path.{_≡_};
 ghost use mathlib.Core.Bool.{false};
 ghost use mathlib.Core.List.{List, [], _∷_, _++_};
@@ -6,16 +6,19 @@ ghost use Prim.Native.Nat.{ℕ, _≤_};
 ghost use Rattle.exponents.specs.Fractions.{faulty as isFaulty};
 ghost use Rattle.units.specs.declared.Factor.{Factor as Factorᵛ};
 ghost use Rattle.tables.specs.Lists.{base};
-ghost use Rattle.tables.specs.Scale.{doubles, scaleFrom, scale, sizeBy};
-ghost use Rattle.tables.specs.Held.{expsOf, scaledOf, View, viewBases, itemOf, Resolved, Lends};
+ghost use Rattle.floats.specs.Power.{tally};
+ghost use Rattle.tables.specs.Scale.{doubles, counting, scaleFrom, scale, sizeBy, countedSize};
+ghost use Rattle.tables.specs.Held.{expsOf, scaledOf, talliedOf, Within, View, viewBases, itemOf, Resolved, Lends};
 ghost use Rattle.canonical.specs.Canonical.{sameAll, allNought};
 ghost use Rattle.reduction.specs.Held.{Summed};
 use exponents::Exponent;
 use exponents::Fraction;
+use floats::Tally;
 use tables::Item;
 use tables::Items;
 use tables::rows::Exps;
 use tables::scales::Scaled;
+use tables::scales::Tallied;
 
 // n, or 16 where that is more: no list is longer, and no table has more base rows.
 pub fn capped(n: usize) -> usize
@@ -136,41 +139,62 @@ pub fn base_exponents(l: Items, m: Items, n: usize, nums: &[i32], dens: &[u32]) 
 
 // ---- the scale
 
-// start times the scale of a list.
-pub fn scale_from(start: f64, l: Items) -> Scaled
-    ensures { λ r. ⌜ ((v : View) (fs : List Factorᵛ) → Resolved v l fs → r ≡ scaledOf (scaleFrom doubles (sizeBy (v .scale)) start fs)) ⌝ }
+// start times the scale of a list, with the multiplications that it took: a factor takes at most 61 for its prefix and 61 for its power.
+pub fn counted_scale(start: f64, l: Items) -> Tallied
+    ensures { λ r. ⌜ Within 1952 r × ((v : View) (fs : List Factorᵛ) → Resolved v l fs → r ≡ talliedOf (scaleFrom (counting doubles) (countedSize (sizeBy (v .scale))) (tally start 0) fs)) ⌝ }
 {
     let m = capped(l.len);
     let mut acc = start;
+    let mut count: u32 = 0;
     let mut i: usize = 0;
     while i < m {
         let it = l.at[i];
         let f = it.factor;
         let p = f.prefix;
         let e = f.exponent;
-        let size = units::prefixes::factor_of(p) * it.scale;
-        let x = tables::scales::raised(size, e);
+        let g = units::prefixes::counted_factor(p);
+        let x = tables::scales::counted(g.value * it.scale, e);
         match x {
-            Scaled::Value(v) => {
-                acc = acc * v;
+            Tallied::Value(t) => {
+                acc = acc * t.value;
+                count = count + (g.count + t.count);
             }
-            Scaled::Refused(r) => {
-                return Scaled::Refused(r);
+            Tallied::Refused(r) => {
+                return Tallied::Refused(r);
             }
         }
         i += 1;
     }
-    Scaled::Value(acc)
+    Tallied::Value(Tally {
+        value: acc,
+        count: count,
+    })
 }
 
-// The scale of l and then m, joined.
-pub fn scale_of(l: Items, m: Items) -> Scaled
-    ensures { λ r. ⌜ ((v : View) (fs gs : List Factorᵛ) → Resolved v l fs → Resolved v m gs → r ≡ scaledOf (scale doubles (sizeBy (v .scale)) (fs ++ gs))) ⌝ }
+// start times the scale of a list.
+pub fn scale_from(start: f64, l: Items) -> Scaled
+    ensures { λ r. ⌜ ((v : View) (fs : List Factorᵛ) → Resolved v l fs → r ≡ scaledOf (scaleFrom doubles (sizeBy (v .scale)) start fs)) ⌝ }
 {
-    let x = scale_from(1.0, l);
+    tables::scales::uncounted(counted_scale(start, l))
+}
+
+// The scale of l and then m, joined, with the multiplications that it took.
+pub fn scale_of(l: Items, m: Items) -> Tallied
+    ensures { λ r. ⌜ Within 3904 r × ((v : View) (fs gs : List Factorᵛ) → Resolved v l fs → Resolved v m gs → r ≡ talliedOf (scale (counting doubles) (countedSize (sizeBy (v .scale))) (fs ++ gs))) ⌝ }
+{
+    let x = counted_scale(1.0, l);
     match x {
-        Scaled::Value(v) => scale_from(v, m),
-        Scaled::Refused(r) => Scaled::Refused(r),
+        Tallied::Value(t) => {
+            let y = counted_scale(t.value, m);
+            match y {
+                Tallied::Value(u) => Tallied::Value(Tally {
+                    value: u.value,
+                    count: t.count + u.count,
+                }),
+                Tallied::Refused(r) => Tallied::Refused(r),
+            }
+        }
+        Tallied::Refused(r) => Tallied::Refused(r),
     }
 }
 

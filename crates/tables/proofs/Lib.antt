@@ -2,6 +2,7 @@ pub mod Placing
 pub mod Terms
 pub mod Paging
 pub mod Scaling
+pub mod Forgetting
 pub mod Search
 pub mod Slotting
 pub mod Working

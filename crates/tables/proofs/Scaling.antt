@@ -7,6 +7,7 @@ use native.Mathlib.Omega.{arith}
 use native.Mathlib.Numerals.{add-one}
 use lib.ListN.{length, drop, getD, drop-of-length-le}
 use lib.Seq.{drop-cons}
+use lib.IntN.{pos}
 use lib.Ieee.{Float, mul}
 use lib.Ieee as ieee
 use borrow.Author.Tests.{eq-eqb, ne-eqb}
@@ -29,7 +30,7 @@ module _ {R : Type 0} (N : Numbers R) (a : R) (e : Exponent) where
   unfolding raisedTo raise
   raised-whole h = rw (eq-eqb (e .den) 1 h)
 
-  pub raised-one : (e .den ≡ 1 → ⊥) → N .isOne a ≡ true → raisedTo N a e ≡ given (N .one)
+  pub raised-one : (e .den ≡ 1 → ⊥) → N .isOne a ≡ true → raisedTo N a e ≡ given (N .power a (pos 0))
   unfolding raisedTo raise
   raised-one h k = rw (ne-eqb (e .den) 1 h, k)
 

@@ -36,6 +36,9 @@ use Rattle.tables.specs.declared.rows.Worked.{Worked}
 use Rattle.tables.specs.declared.rows.Exps.{Exps}
 use Rattle.tables.specs.declared.scales.Scaled.{Scaled}
 use Rattle.tables.specs.declared.scales.Scaled.the-variants.{Value, Refused}
+use Rattle.tables.specs.declared.scales.Tallied.{Tallied}
+use Rattle.tables.specs.declared.scales.Tallied.the-variants as tallied
+use Rattle.floats.specs.declared.Tally.{Tally}
 
 -- ---- rows: arrays of 16, clean past their ends
 
@@ -65,6 +68,21 @@ expsOf (refused r) = noExps (number r)
 abbrev pub scaledOf : Outcome Float → Scaled
 scaledOf (given v) = Value v
 scaledOf (refused r) = Refused (number r)
+
+-- the same with the multiplications that it took
+abbrev pub talliedOf : Outcome Tally → Tallied
+talliedOf (given t) = tallied.Value t
+talliedOf (refused r) = tallied.Refused (number r)
+
+-- the scale alone
+abbrev pub plainOf : Tallied → Scaled
+plainOf (tallied.Value t) = Value (t .value)
+plainOf (tallied.Refused r) = Refused r
+
+-- it took at most so many
+abbrev pub Within : ℕ → Tallied → Type 0
+Within n (tallied.Value t) = t .count ≤ n
+Within n (tallied.Refused r) = Unit {0}
 
 abbrev pub unworked : ℕ → Worked
 unworked n = record { known = blankKnown; refusal = n }

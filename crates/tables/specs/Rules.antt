@@ -10,7 +10,8 @@ use Rattle.units.specs.declared.Factor.{Factor}
 use Rattle.units.specs.declared.Rows.{Rows}
 use Rattle.keys.specs.Orders.{isEq}
 use Rattle.keys.specs.Key.{first}
-use Rattle.tables.specs.Scale.{Numbers, doubles, sizeBy, scale}
+use Rattle.floats.specs.declared.Tally.{Tally}
+use Rattle.tables.specs.Scale.{Numbers, doubles, counting, sizeBy, countedSize, scale}
 use Rattle.tables.specs.Rows.{Facts, nobody, scaleAt, bases, baseRows}
 use Rattle.tables.specs.Order.{Atom, keyOrder, orderIn}
 
@@ -44,4 +45,16 @@ rulesIn t ks = record {
   alike = λ r s. isEq (keyOrder ks r s);
   isBase = λ r. getD ks r nobody .base;
   lead = λ r. first (getD ks r nobody .exps);
+}
+
+-- 02, order 5: the same rules over numbers that carry the multiplications they took
+abbrev pub counted : Rules Float → Rules Tally
+counted R = record {
+  order = R .order;
+  bases = R .bases;
+  numbers = counting (R .numbers);
+  size = countedSize (R .size);
+  alike = R .alike;
+  isBase = R .isBase;
+  lead = R .lead;
 }

@@ -2,7 +2,8 @@
 use std::iter::repeat;
 
 use crate::records::{
-    Candidate, Distinct, Exponent, Factor, Kind, KnotRule, KnotVector, List, Multiple, Prefix, Quantity, Reduced, Row,
+    Candidate, Counted, Distinct, Exponent, Factor, Kind, KnotRule, KnotVector, List, Multiple, Prefix, Quantity,
+    Reduced, Row,
 };
 
 /// Bytes of an exponent: numerator, denominator.
@@ -15,6 +16,8 @@ pub const FACTOR_BYTES: usize = 20;
 pub const LIST_BYTES: usize = 324;
 /// Bytes of a quantity: the value's bits, the mark, its list.
 pub const QUANTITY_BYTES: usize = 336;
+/// Bytes of a counted quantity: the quantity, the count, four bytes of zero.
+pub const COUNTED_BYTES: usize = 344;
 /// Bytes of a row: rank, kind, the definition's length, the factor's bits, 8 factors.
 pub const ROW_BYTES: usize = 176;
 /// Bytes of a candidate: rank, two bytes never read, its list.
@@ -219,9 +222,18 @@ pub fn read_list(bytes: &[u8; LIST_BYTES]) -> List {
     read_list_in(bytes)
 }
 
+fn read_quantity_in(bytes: &[u8]) -> Quantity {
+    Quantity { value: read_value_in(bytes), mark: read_u32(bytes, 8) != 0, unit: read_list_in(&bytes[12..]) }
+}
+
 /// A quantity.
 pub fn read_quantity(bytes: &[u8; QUANTITY_BYTES]) -> Quantity {
-    Quantity { value: read_value_in(bytes), mark: read_u32(bytes, 8) != 0, unit: read_list_in(&bytes[12..]) }
+    read_quantity_in(bytes)
+}
+
+/// A counted quantity.
+pub fn read_counted(bytes: &[u8; COUNTED_BYTES]) -> Counted {
+    Counted { quantity: read_quantity_in(bytes), count: read_u32(bytes, QUANTITY_BYTES) }
 }
 
 /// A multiple, if there is one.

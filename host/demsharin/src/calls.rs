@@ -1,9 +1,11 @@
 // Every call on Rust records: arguments to bytes, the archive's function, the answer's bytes to a record.
 use std::cmp::Ordering;
 
-use crate::bytes::{self, LIST_BYTES, MULTIPLE_BYTES, NUMBER_BYTES, QUANTITY_BYTES, REDUCED_BYTES, VALUE_BYTES};
+use crate::bytes::{
+    self, COUNTED_BYTES, LIST_BYTES, MULTIPLE_BYTES, NUMBER_BYTES, QUANTITY_BYTES, REDUCED_BYTES, VALUE_BYTES,
+};
 use crate::exports;
-use crate::records::{Candidate, Exponent, List, Multiple, Prefix, Quantity, Reduced, Row};
+use crate::records::{Candidate, Counted, Exponent, List, Multiple, Prefix, Quantity, Reduced, Row};
 use crate::refusal::Refusal;
 
 /// The rows of a table as the library reads them: made once, lent to every call, checked afresh by each.
@@ -35,6 +37,10 @@ fn list(call: impl FnOnce(&mut [u8]) -> u32) -> Result<List, Refusal> {
 
 fn quantity(call: impl FnOnce(&mut [u8]) -> u32) -> Result<Quantity, Refusal> {
     answered::<QUANTITY_BYTES>(call).map(|out| bytes::read_quantity(&out))
+}
+
+fn counted(call: impl FnOnce(&mut [u8]) -> u32) -> Result<Counted, Refusal> {
+    answered::<COUNTED_BYTES>(call).map(|out| bytes::read_counted(&out))
 }
 
 fn number(call: impl FnOnce(&mut [u8]) -> u32) -> Result<u32, Refusal> {
@@ -158,6 +164,22 @@ impl Table {
     pub fn full_simplify_with(&self, q: &Quantity, candidates: &[Candidate]) -> Result<Quantity, Refusal> {
         let candidates = bytes::candidates(candidates);
         quantity(|out| exports::full_simplify_with(&self.bytes, &bytes::quantity(q), &candidates, out))
+    }
+}
+
+/// The conversions with their multiplications counted: for each factor of both scales the prefix power and the power to a
+/// whole exponent, by set bits plus bit length minus one, none for 0. What [`Table::convert_to`] and
+/// [`Table::convert_merged`] refuse is refused here as well; a zero and equal lists count 0. One power takes at most 61, one
+/// prefix power at most 19. The checks of the rows aren't counted, nor are divisions and the products between powers.
+impl Table {
+    /// As [`Table::convert_to`], with its count: at most 3744.
+    pub fn convert_to_counted(&self, q: &Quantity, target: &List) -> Result<Counted, Refusal> {
+        counted(|out| exports::convert_to_counted(&self.bytes, &bytes::quantity(q), &bytes::list(target), out))
+    }
+
+    /// As [`Table::convert_merged`], with its count: at most 2560.
+    pub fn convert_merged_counted(&self, q: &Quantity, target: &List) -> Result<Counted, Refusal> {
+        counted(|out| exports::convert_merged_counted(&self.bytes, &bytes::quantity(q), &bytes::list(target), out))
     }
 }
 

@@ -53,4 +53,6 @@ exported! {
     demsharin_convert_merged as convert_merged(table, quantity, target);
     demsharin_knot_vector as knot_vector(table, knots, rule);
     demsharin_span_quotient as span_quotient(table, knots, rule);
+    demsharin_convert_to_counted as convert_to_counted(table, quantity, target);
+    demsharin_convert_merged_counted as convert_merged_counted(table, quantity, target);
 }

@@ -28,6 +28,7 @@ mod tests;
 pub use calls::{Table, prefix_factor};
 pub use files::{Salvaged, salvage};
 pub use records::{
-    Candidate, Distinct, Exponent, Factor, Kind, KnotRule, KnotVector, List, Multiple, Prefix, Quantity, Reduced, Row,
+    Candidate, Counted, Distinct, Exponent, Factor, Kind, KnotRule, KnotVector, List, Multiple, Prefix, Quantity,
+    Reduced, Row,
 };
 pub use refusal::Refusal;

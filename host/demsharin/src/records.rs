@@ -116,6 +116,17 @@ impl Quantity {
     }
 }
 
+/// A converted quantity, and what its conversion costs.
+#[derive(Debug, Clone, PartialEq)]
+pub struct Counted {
+    /// The one that the conversion answers without its count.
+    pub quantity: Quantity,
+    /// The multiplications done inside the power rule, prefix powers included: at most 3744 by
+    /// [`Table::convert_to_counted`](crate::Table::convert_to_counted), 2560 by
+    /// [`Table::convert_merged_counted`](crate::Table::convert_merged_counted).
+    pub count: u32,
+}
+
 /// What a row of a table is.
 #[derive(Debug, Clone, PartialEq)]
 pub enum Kind {

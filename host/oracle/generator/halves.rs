@@ -3,7 +3,7 @@
 use scope::fractions::{Fraction, gcd};
 use scope::tables::Known;
 use scope::{calls, places};
-use wire::calls::{CONVERT_MERGED, CONVERT_TO};
+use wire::calls::{CONVERT_MERGED, CONVERT_MERGED_COUNTED, CONVERT_TO, CONVERT_TO_COUNTED};
 use wire::records::{Candidate, Exponent, Factor, LIST_PLACES, List, METRIC, Prefix, Quantity, Row, Rule};
 use wire::refusals::{DENOMINATOR, RANGE};
 use wire::stream::Request;
@@ -41,7 +41,7 @@ pub fn draft(random: &mut Random, code: u32) -> Draft {
     let (tries, late) = random.pick(&[(1, false), (6, false), (20, true)]);
     let mut taken = drafted(random, code);
     for _ in 1..tries {
-        if refused(&taken.request(), late && matches!(code, 9 | 14 | 17 | 18 | 20..=22 | 27..=29)) {
+        if refused(&taken.request(), late && matches!(code, 9 | 14 | 17 | 18 | 20..=22 | 27..=31)) {
             break;
         }
         taken = drafted(random, code);
@@ -51,7 +51,9 @@ pub fn draft(random: &mut Random, code: u32) -> Draft {
 
 fn refused(request: &Request, late: bool) -> bool {
     match late {
-        true if request.code == CONVERT_MERGED => by_one_rule(request),
+        true if [CONVERT_MERGED, CONVERT_TO_COUNTED, CONVERT_MERGED_COUNTED].contains(&request.code) => {
+            by_one_rule(request)
+        }
         true => places::of(request).and_then(|place| place.step).is_some_and(|step| !EARLY.contains(&step)),
         false => matches!(calls::given(request), Err(RANGE | DENOMINATOR)),
     }
@@ -110,7 +112,7 @@ fn parts(random: &mut Random, made: &Made, code: u32) -> Vec<Part> {
             vec![Part::Quantity(q), Part::Candidates(candidates)]
         }
         24..=26 => file_parts(random, made, code).expect("a call on files"),
-        27 => cancelling(random, made),
+        27 | 30 | 31 => cancelling(random, made),
         28 | 29 => knots(random, made, code),
         _ => vec![Part::Quantity(quantity_for(random, made, code))],
     }

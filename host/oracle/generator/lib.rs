@@ -2,10 +2,12 @@
 //
 // It asks the crate `scope` for base exponents and scales, so that most requests lie inside the equality domain.
 pub mod cancelling;
+pub mod counted;
 pub mod faults;
 pub mod files;
 pub mod halves;
 pub mod knots;
+pub mod limits;
 pub mod lists;
 pub mod noise;
 pub mod random;

@@ -1,11 +1,12 @@
 // One request for each call: arguments that fit together more often than not.
 use scope::fractions::Fraction;
 use wire::bytes::*;
-use wire::calls::{KNOT_VECTOR, SPAN_QUOTIENT};
+use wire::calls::{CONVERT_MERGED_COUNTED, CONVERT_TO_COUNTED, KNOT_VECTOR, SPAN_QUOTIENT};
 use wire::records::{Candidate, Exponent, Factor, List, Quantity, Rule, SpanRule, bits_of};
 use wire::stream::Request;
 
 use crate::cancelling;
+use crate::counted;
 use crate::files;
 use crate::knots::{self, Vector};
 use crate::lists::{self, fraction_exponent, raised, whole_exponent};
@@ -41,6 +42,11 @@ pub fn draft(random: &mut Random, code: u32, limit: usize) -> Draft {
     if [KNOT_VECTOR, SPAN_QUOTIENT].contains(&code) {
         let (_, vector) = troubles::vector(random, limit);
         return of_knots(random, code, vector);
+    }
+    if [CONVERT_TO_COUNTED, CONVERT_MERGED_COUNTED].contains(&code) {
+        let (_, conversion) = counted::conversion(random, limit);
+        let parts = vec![Part::Quantity(conversion.own), Part::List(conversion.target)];
+        return Draft { code, made: conversion.made, parts };
     }
     let mut made = tables::table(random, limit);
     if code == 22 && random.percent(40) {

@@ -1,6 +1,6 @@
 // Every call from a request to its answer by 01's rules and 02's.
-use wire::bytes::{lent, put_exponent, put_list, put_quantity, put_u32, put_u64};
-use wire::calls::{FILES, KNOT_VECTOR, SPAN_QUOTIENT};
+use wire::bytes::{lent, put_counted, put_exponent, put_list, put_quantity, put_u32, put_u64};
+use wire::calls::{CONVERT_MERGED_COUNTED, CONVERT_TO_COUNTED, FILES, KNOT_VECTOR, SPAN_QUOTIENT};
 use wire::records::{self, bits_of};
 use wire::refusals::DIVZERO;
 use wire::stream::{Answer, Request};
@@ -8,7 +8,7 @@ use wire::stream::{Answer, Request};
 use crate::Checked;
 use crate::arguments::{self, Arguments};
 use crate::canonical::{canonical, same};
-use crate::conversion::{converted, converted_merged};
+use crate::conversion::{converted, converted_merged, counted, counted_merged};
 use crate::domain::number;
 use crate::files;
 use crate::fractions::{Fraction, ZERO};
@@ -44,6 +44,7 @@ pub fn given(request: &Request) -> Checked<Vec<u8>> {
         2..=7 | 19 | 20 => on_lists(request.code, &mut a),
         17 | 18 => comparison(request.code, &mut a),
         10..=14 => on_two(request.code, &mut a),
+        CONVERT_TO_COUNTED | CONVERT_MERGED_COUNTED => with_count(request.code, &mut a),
         _ => on_one(request.code, &mut a),
     }
 }
@@ -58,9 +59,12 @@ fn list_bytes(parts: &[Part]) -> Vec<u8> {
     bytes(|out| put_list(out, &written(parts)))
 }
 
+fn record(q: &Quantity) -> records::Quantity {
+    records::Quantity { bits: bits_of(q.value), mark: q.mark as u32, unit: written(&q.unit) }
+}
+
 fn quantity_bytes(q: &Quantity) -> Vec<u8> {
-    let record = records::Quantity { bits: bits_of(q.value), mark: q.mark as u32, unit: written(&q.unit) };
-    bytes(|out| put_quantity(out, &record))
+    bytes(|out| put_quantity(out, &record(q)))
 }
 
 fn number_bytes(n: u32) -> Vec<u8> {
@@ -147,6 +151,15 @@ fn on_two(code: u32, a: &mut Arguments) -> Checked<Vec<u8>> {
         13 => fresh(first.value / second.value, with_room(joined(&first.unit, &negated(&second.unit)))?),
         _ => sums::checked_power(table, &first, &second)?,
     }))
+}
+
+/// The quantity is the one that the conversion answers without its count.
+fn with_count(code: u32, a: &mut Arguments) -> Checked<Vec<u8>> {
+    let (q, target) = (a.quantity()?, a.list()?);
+    let by_rule = if code == CONVERT_TO_COUNTED { counted } else { counted_merged };
+    let answer = by_rule(&a.table, q.value, &q.unit, &target)?;
+    let quantity = record(&fresh(answer.value, target));
+    Ok(bytes(|out| put_counted(out, &records::Counted { quantity, count: answer.count })))
 }
 
 fn on_one(code: u32, a: &mut Arguments) -> Checked<Vec<u8>> {

@@ -102,9 +102,9 @@ fn call(code: u32, mut a: Arguments) -> Checked<Walked> {
         4 => Err("power: a product"),
         5 => Err("canonical form: merging"),
         7 | 8 => Err("reduction: base exponents"),
-        9 | 27 => {
+        9 | 27 | 30 | 31 => {
             let (own, target) = (a.quantity()?, a.list()?);
-            conversion(&a.table, &own.unit, &target, code == 27)
+            conversion(&a.table, &own.unit, &target, matches!(code, 27 | 31))
         }
         14 => {
             let (_, exponent) = (a.quantity()?, a.quantity()?);

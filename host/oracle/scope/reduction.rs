@@ -1,4 +1,5 @@
-// The power rule, scales and base exponents of a list ("Powers and scales").
+// The power rule, scales and base exponents of a list ("Powers and scales"), and how many multiplications the power rule
+// does for them (02, "Order 5: count the multiplications"; its reading 30).
 use wire::records::Prefix;
 use wire::refusals::FRACTION;
 
@@ -10,39 +11,64 @@ use crate::tables::Known;
 /// Nonzero base exponents by the rank of their base row, ranks rising.
 pub type Exponents = Vec<(u16, Fraction)>;
 
-/// "Power to a whole n."
-pub fn power(base: f64, n: i64) -> f64 {
-    let (mut r, mut a) = (1.0, base);
+/// A number, and how many multiplications inside the power rule it took.
+#[derive(Debug, Clone, Copy, PartialEq)]
+pub struct Counted {
+    pub value: f64,
+    pub count: u32,
+}
+
+/// "Power to a whole n", each multiplication counted where it is done. The 1/r of a negative n is none.
+pub fn power_counted(base: f64, n: i64) -> Counted {
+    let (mut r, mut a, mut count) = (1.0, base, 0);
     let mut bits = n.unsigned_abs();
     loop {
         if bits % 2 == 1 {
             r *= a;
+            count += 1;
         }
         bits /= 2;
         if bits == 0 {
             break;
         }
         a *= a;
+        count += 1;
     }
-    if n < 0 { 1.0 / r } else { r }
+    Counted { value: if n < 0 { 1.0 / r } else { r }, count }
+}
+
+pub fn power(base: f64, n: i64) -> f64 {
+    power_counted(base, n).value
+}
+
+fn prefix_counted(p: Prefix) -> Counted {
+    power_counted(if p.kind == 0 { 10.0 } else { 2.0 }, p.n as i64)
 }
 
 pub fn prefix_factor(p: Prefix) -> f64 {
-    power(if p.kind == 0 { 10.0 } else { 2.0 }, p.n as i64)
+    prefix_counted(p).value
 }
 
-/// The scale of a list: 1 times, from left to right, (prefix factor · row scale) to its exponent.
-pub fn scale(rows: &[Known], parts: &[Part]) -> Checked<f64> {
-    let mut scale = 1.0;
+/// The scale of a list: 1 times, from left to right, (prefix factor · row scale) to its exponent. Counted are the prefix
+/// powers, of factors to 0 and to a fraction too, and the powers to whole exponents; the row scales are in hand.
+pub fn scale_counted(rows: &[Known], parts: &[Part]) -> Checked<Counted> {
+    let mut scale = Counted { value: 1.0, count: 0 };
     for p in parts {
-        let base = prefix_factor(p.prefix) * rows[p.row].scale;
-        scale *= match p.exponent.is_whole() {
-            true => power(base, p.exponent.num),
-            false if base == 1.0 => 1.0,
+        let prefix = prefix_counted(p.prefix);
+        let base = prefix.value * rows[p.row].scale;
+        let raised = match p.exponent.is_whole() {
+            true => power_counted(base, p.exponent.num),
+            false if base == 1.0 => Counted { value: 1.0, count: 0 },
             false => return Err(FRACTION),
         };
+        scale.value *= raised.value;
+        scale.count += prefix.count + raised.count;
     }
     Ok(scale)
+}
+
+pub fn scale(rows: &[Known], parts: &[Part]) -> Checked<f64> {
+    scale_counted(rows, parts).map(|scale| scale.value)
 }
 
 fn exponent_at(exponents: &Exponents, rank: u16) -> Fraction {

@@ -5,6 +5,7 @@ pub const EXPONENT: usize = 8;
 pub const PREFIX: usize = 8;
 pub const LIST: usize = 324;
 pub const QUANTITY: usize = 336;
+pub const COUNTED: usize = 344;
 pub const ROW: usize = 176;
 pub const CANDIDATE: usize = 328;
 pub const RULE: usize = 336;
@@ -46,6 +47,12 @@ pub fn list(b: &[u8]) -> Option<List> {
 pub fn quantity(b: &[u8]) -> Option<Quantity> {
     let unit = list(b.get(12..)?)?;
     Some(Quantity { bits: bits_of(f64::from_bits(u64_at(b, 0))), mark: u32_at(b, 8), unit })
+}
+
+pub fn counted(b: &[u8]) -> Option<Counted> {
+    let (first, rest) = b.split_at_checked(QUANTITY)?;
+    let quantity = quantity(first).filter(|_| b.len() == COUNTED)?;
+    Some(Counted { quantity, count: u32_at(rest, 0) })
 }
 
 fn row(b: &[u8]) -> Row {
@@ -124,6 +131,12 @@ pub fn put_quantity(out: &mut Vec<u8>, q: &Quantity) {
     put_u64(out, q.bits);
     put_u32(out, q.mark);
     put_list(out, &q.unit);
+}
+
+pub fn put_counted(out: &mut Vec<u8>, counted: &Counted) {
+    put_quantity(out, &counted.quantity);
+    put_u32(out, counted.count);
+    put_u32(out, 0);
 }
 
 pub fn put_row(out: &mut Vec<u8>, row: &Row) {

@@ -27,6 +27,8 @@ pub enum Kind {
     Salvaged,
     /// Two numbers, then distinct values with their multiplicities.
     Vector,
+    /// A quantity, then how many multiplications it took.
+    Counted,
 }
 
 use Kind::*;
@@ -42,7 +44,7 @@ const fn call(name: &'static str, arguments: &'static [Kind], answer: Kind) -> C
 }
 
 /// Code 1 is the first entry.
-const CALLS: [Call; 29] = [
+const CALLS: [Call; 31] = [
     call("prefix_factor", &[Prefix], Value),
     call("product", &[Table, List, List], List),
     call("quotient", &[Table, List, List], List),
@@ -72,11 +74,13 @@ const CALLS: [Call; 29] = [
     call("convert_merged", &[Table, Quantity, List], Quantity),
     call("knot_vector", &[Table, Knots, Rule], Vector),
     call("span_quotient", &[Table, Knots, SpanRule], Value),
+    call("convert_to_counted", &[Table, Quantity, List], Counted),
+    call("convert_merged_counted", &[Table, Quantity, List], Counted),
 ];
 
-pub const CODES: std::ops::RangeInclusive<u32> = 1..=29;
+pub const CODES: std::ops::RangeInclusive<u32> = 1..=31;
 /// 02's calls; numbat has none like them.
-pub const ADDED: std::ops::RangeInclusive<u32> = 24..=29;
+pub const ADDED: std::ops::RangeInclusive<u32> = 24..=31;
 /// Those that write and read a table file.
 pub const FILES: std::ops::RangeInclusive<u32> = 24..=26;
 /// 01's conversion, and that of 02's order 3: they take the same arguments.
@@ -85,6 +89,9 @@ pub const CONVERT_MERGED: u32 = 27;
 /// Those of 02's order 4: they take the same table and knots.
 pub const KNOT_VECTOR: u32 = 28;
 pub const SPAN_QUOTIENT: u32 = 29;
+/// Those of 02's order 5: the two conversions with their multiplications counted.
+pub const CONVERT_TO_COUNTED: u32 = 30;
+pub const CONVERT_MERGED_COUNTED: u32 = 31;
 
 /// The most bytes that an argument in the stream may have: 513 knots have to reach their refusal.
 pub fn limit(kind: Kind) -> u32 {

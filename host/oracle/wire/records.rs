@@ -49,6 +49,13 @@ pub struct Candidate {
     pub unit: List,
 }
 
+/// A converted quantity, and how many multiplications inside the power rule it took.
+#[derive(Debug, Clone, PartialEq, Eq, Hash)]
+pub struct Counted {
+    pub quantity: Quantity,
+    pub count: u32,
+}
+
 /// Tolerance's bits, degree, target unit.
 #[derive(Debug, Clone, PartialEq, Eq, Hash)]
 pub struct Rule {

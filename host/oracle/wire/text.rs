@@ -36,6 +36,10 @@ pub fn quantity(q: &Quantity) -> String {
     format!("{} {}{}", value(q.bits), list(&q.unit), if q.mark == 0 { " unmarked" } else { "" })
 }
 
+fn counted(c: &Counted) -> String {
+    format!("{}, {} multiplications", quantity(&c.quantity), c.count)
+}
+
 pub fn row(at: usize, row: &Row) -> String {
     let kind = match row.kind {
         0 if row.len == 0 => "base".to_string(),
@@ -123,6 +127,7 @@ pub fn part(kind: Kind, b: &[u8]) -> String {
         Kind::Exponent => bytes::exponent(b).map(exponent),
         Kind::List => bytes::list(b).map(|l| list(&l)),
         Kind::Quantity => bytes::quantity(b).map(|q| quantity(&q)),
+        Kind::Counted => bytes::counted(b).map(|c| counted(&c)),
         Kind::Value => (b.len() == 8).then(|| value(u64_at(b, 0))),
         Kind::YesNo => (b.len() == 4).then(|| if u32_at(b, 0) == 0 { "no" } else { "yes" }.to_string()),
         Kind::Order => (b.len() == 4).then(|| order(u32_at(b, 0))),

@@ -16,10 +16,10 @@ array-read-result c = search needs
 
 returns : tie.Need-returns
 unfolding arities look calls
-returns c = arity-at 30 calls calls-proper (c .before .args .code) (search needs)
+returns c = arity-at 32 calls calls-proper (c .before .args .code) (search needs)
 
 returns-2 : tie.Need-returns-2
-returns-2 c = (sym (arity-above 30 calls calls-proper (c .before .args .code) (search needs)), search needs)
+returns-2 c = (sym (arity-above 32 calls calls-proper (c .before .args .code) (search needs)), search needs)
 
 pub arity-spec : {M : Type 1} → statement M
 arity-spec = tie.close (tie.spec mul-result array-read-result returns returns-2)

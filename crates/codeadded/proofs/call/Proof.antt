@@ -42,6 +42,12 @@ knot-vector-requires c κs = search needs
 span-quotient-requires : tie.Need-span-quotient-requires
 span-quotient-requires c κs = search needs
 
+convert-to-counted-requires : tie.Need-convert-to-counted-requires
+convert-to-counted-requires c κs = search needs
+
+convert-merged-counted-requires : tie.Need-convert-merged-counted-requires
+convert-merged-counted-requires c κs = search needs
+
 refused-requires : tie.Need-refused-requires
 refused-requires c κs = search needs
 
@@ -87,9 +93,23 @@ returns-6 : tie.Need-returns-6
 unfolding look calls
 returns-6 c = rw (c .before .before .before .before .match .keys6) (c .before .before .span-quotient .ensures)
 
+same-length-7 : tie.Need-same-length-7
+same-length-7 c = search needs
+
 returns-7 : tie.Need-returns-7
+unfolding look calls
+returns-7 c = rw (c .before .before .before .before .match .keys7) (c .before .before .convert-to-counted .ensures)
+
+same-length-8 : tie.Need-same-length-8
+same-length-8 c = search needs
+
+returns-8 : tie.Need-returns-8
+unfolding look calls
+returns-8 c = rw (c .before .before .before .before .match .keys8) (c .before .before .convert-merged-counted .ensures)
+
+returns-9 : tie.Need-returns-9
 unfolding calls
-returns-7 c = replied-none calls _ _ _ _ _ _ (c .before .match .rest) (c .refused .ensures .0) (c .refused .ensures .1)
+returns-9 c = replied-none calls _ _ _ _ _ _ (c .before .match .rest) (c .refused .ensures .0) (c .refused .ensures .1)
 
 pub call-spec : {M : Type 1} → statement M
 call-spec =
@@ -107,6 +127,8 @@ call-spec =
     convert-merged-requires
     knot-vector-requires
     span-quotient-requires
+    convert-to-counted-requires
+    convert-merged-counted-requires
     refused-requires
     same-length
     returns
@@ -120,4 +142,8 @@ call-spec =
     returns-5
     same-length-6
     returns-6
-    returns-7)
+    same-length-7
+    returns-7
+    same-length-8
+    returns-8
+    returns-9)

@@ -1,6 +1,7 @@
 // The wrapper's tests, each over the archive: the bench list, table files, the halves of fractions, the conversion that
-// cancels on both sides, knot vectors, the limits, the refusals, the bytes.
+// cancels on both sides, knot vectors, counted multiplications, the limits, the refusals, the bytes.
 mod bench;
+mod counted;
 mod files;
 mod halves;
 mod knots;

@@ -3,26 +3,27 @@ use mathlib.Core.Bool.{Bool, true}
 use borrow.Author.Needs.{needs}
 use mathlib.Core.Path.{_≡_, refl, sym, _∙_, ap}
 use mathlib.Core.List.{List, map}
-use lib.Ieee.{Float}
+use Rattle.floats.specs.Power.{tally}
+use Rattle.floats.specs.declared.Tally.{Tally}
 use Rattle.units.specs.declared.Factor.{Factor}
 use Rattle.units.specs.Lists.{inverted}
-use Rattle.tables.specs.Held.{View, rulesBy}
-use Rattle.tables.specs.Rules.{Rules}
+use Rattle.tables.specs.Held.{talliedOf, View, rulesBy}
+use Rattle.tables.specs.Rules.{Rules, counted}
 use Rattle.canonical.specs.Canonical.{canon}
 use Rattle.canonical.proofs.Seen.{len-items}
 use Rattle.canonical.proofs.Judged.{canon-formed, unformed}
 use Rattle.common.specs.Common.{common}
 use Rattle.common.proofs.Resolved.{over-resolved, over-merged, own-merged}
 use Rattle.conversion.specs.Conversion.{standing, convertBy}
-use Rattle.conversion.specs.Held.{readyIf, convertedOf}
-use Rattle.conversion.proofs.Rating.{rate-refused, rate-kept, either-kept, neither-kept}
+use Rattle.conversion.specs.Held.{readyIf}
+use Rattle.conversion.proofs.Rating.{count-refused, count-kept, either-kept, neither-kept}
 use Rattle.conversion.proofs.Converting.{form-stops, target-form-stops, keeps-value, by-scales, goes-on, own-given, none-common, none-lessened}
 use Rattle.conversion.proofs.convert.by_rule.Statement.{statement}
 use Rattle.conversion.proofs.convert.by_rule.Tie as tie
 
 -- the flag as code has tested it
-by-flag : (R : Rules Float) (v : View) (fs gs : List Factor) (x : Float) {t u : Bool} → u ≡ t → convertedOf (convertBy R (readyIf (v .order) t) fs gs x) ≡ convertedOf (convertBy R (readyIf (v .order) u) fs gs x)
-by-flag R v fs gs x e = ap (λ t. convertedOf (convertBy R (readyIf (v .order) t) fs gs x)) (sym e)
+by-flag : (R : Rules Tally) (v : View) (fs gs : List Factor) (x : Tally) {t u : Bool} → u ≡ t → talliedOf (convertBy R (readyIf (v .order) t) fs gs x) ≡ talliedOf (convertBy R (readyIf (v .order) u) fs gs x)
+by-flag R v fs gs x e = ap (λ t. talliedOf (convertBy R (readyIf (v .order) t) fs gs x)) (sym e)
 
 canonical-requires : tie.Need-canonical-requires
 canonical-requires c κs = search needs
@@ -34,8 +35,8 @@ returns : tie.Need-returns
 returns c v fs gs lends rl rm w only =
     let x = c .before .before .before in
     let g = x .before .before .args in
-    rate-refused w (c .no-rate .ensures) (c .before .if1 .taken)
-    (form-stops (rulesBy v (g .n)) (readyIf (v .order) (g .merging)) fs gs w _ (unformed v (canon (v .order) fs) (x .canonical .result) (x .canonical .ensures v fs rl) (c .before .if1 .taken)))
+    count-refused w (c .no-rate .ensures) (c .before .if1 .taken)
+    (form-stops (counted (rulesBy v (g .n))) (readyIf (v .order) (g .merging)) fs gs (tally w 0) _ (unformed v (canon (v .order) fs) (x .canonical .result) (x .canonical .ensures v fs rl) (c .before .if1 .taken)))
 
 canonical-requires-2 : tie.Need-canonical-requires-2
 canonical-requires-2 c κs = search needs
@@ -49,8 +50,8 @@ returns-2 c v fs gs lends rl rm w only =
     let x = y .before .before .before in
     let g = x .before .before .args in
     let a = canon-formed v _ fs (x .canonical .result) rl (x .canonical .ensures v fs rl) (y .before .if1 .left) in
-    rate-refused w (c .no-rate2 .ensures) (c .before .if2 .taken)
-    (target-form-stops (rulesBy v (g .n)) (readyIf (v .order) (g .merging)) fs gs w (a .answer) (a .is) _ (unformed v (canon (v .order) gs) (y .canonical2 .result) (y .canonical2 .ensures v gs rm) (c .before .if2 .taken)))
+    count-refused w (c .no-rate2 .ensures) (c .before .if2 .taken)
+    (target-form-stops (counted (rulesBy v (g .n))) (readyIf (v .order) (g .merging)) fs gs (tally w 0) (a .answer) (a .is) _ (unformed v (canon (v .order) gs) (y .canonical2 .result) (y .canonical2 .ensures v gs rm) (c .before .if2 .taken)))
 
 same-requires : tie.Need-same-requires
 same-requires c κs = search needs
@@ -67,8 +68,8 @@ returns-3 c v fs gs lends rl rm w only =
     let g = x .before .before .args in
     let a = canon-formed v _ fs (x .canonical .result) rl (x .canonical .ensures v fs rl) (y .before .if1 .left) in
     let b = canon-formed v _ gs (y .canonical2 .result) rm (y .canonical2 .ensures v gs rm) (d .if2 .left) in
-    rate-kept w (c .keeping .ensures)
-    (keeps-value (rulesBy v (g .n)) (readyIf (v .order) (g .merging)) fs gs w (a .answer) (a .is) (b .answer) (b .is)
+    count-kept w (c .keeping .ensures)
+    (keeps-value (counted (rulesBy v (g .n))) (readyIf (v .order) (g .merging)) fs gs (tally w 0) (a .answer) (a .is) (b .answer) (b .is)
     (either-kept (g .zero) (s .same .ensures v (a .answer) (b .answer) (a .list) (b .list)) only (c .before .if3 .taken)))
 
 over-common-requires : tie.Need-over-common-requires
@@ -89,17 +90,17 @@ returns-4 c v fs gs lends rl rm w only =
     let y = d .before .before in
     let x = y .before .before .before in
     let g = x .before .before .args in
-    let R = rulesBy v (g .n) in
+    let R = counted (rulesBy v (g .n)) in
     let a = canon-formed v _ fs (x .canonical .result) rl (x .canonical .ensures v fs rl) (y .before .if1 .left) in
     let b = canon-formed v _ gs (y .canonical2 .result) rm (y .canonical2 .ensures v gs rm) (d .if2 .left) in
     let cs = map inverted (common (v .order) (a .answer) (b .answer)) in
     let r = o .over-common .ensures v (a .answer) (b .answer) (a .list) (b .list) in
-    by-scales R (readyIf (v .order) true) fs gs w (a .answer) (a .is) (b .answer) (b .is) refl (c .scaling .ensures) (λ h.
+    by-scales R (readyIf (v .order) true) fs gs (tally w 0) (a .answer) (a .is) (b .answer) (b .is) w refl refl (c .scaling .ensures) (λ h.
     c .before .apart .ensures v (a .answer) (b .answer) lends (a .list) (b .list) w
-    ∙ none-lessened R (a .answer) (b .answer) w cs (sym (len-items v cs _ r) ∙ c .before .before .if5 .taken)
-    ∙ goes-on R (readyIf (v .order) true) fs gs w (a .answer) (a .is) (b .answer) (b .is) _ _ (own-merged v fs gs rl rm (a .answer) (b .answer) (a .is) (b .is)) (over-merged v fs gs rl rm (a .answer) (b .answer) (a .is) (b .is))
+    ∙ none-lessened R (a .answer) (b .answer) (tally w 0) cs (sym (len-items v cs _ r) ∙ c .before .before .if5 .taken)
+    ∙ goes-on R (readyIf (v .order) true) fs gs (tally w 0) (a .answer) (a .is) (b .answer) (b .is) _ _ (own-merged v fs gs rl rm (a .answer) (b .answer) (a .is) (b .is)) (over-merged v fs gs rl rm (a .answer) (b .answer) (a .is) (b .is))
     (neither-kept (g .zero) (s .same .ensures v (a .answer) (b .answer) (a .list) (b .list)) h (o .before .if3 .left)))
-    ∙ by-flag R v fs gs w (f .if4 .taken)
+    ∙ by-flag R v fs gs (tally w 0) (f .if4 .taken)
 
 lessening-requires : tie.Need-lessening-requires
 lessening-requires c κs = search needs
@@ -116,16 +117,16 @@ returns-5 c v fs gs lends rl rm w only =
     let y = d .before .before in
     let x = y .before .before .before in
     let g = x .before .before .args in
-    let R = rulesBy v (g .n) in
+    let R = counted (rulesBy v (g .n)) in
     let a = canon-formed v _ fs (x .canonical .result) rl (x .canonical .ensures v fs rl) (y .before .if1 .left) in
     let b = canon-formed v _ gs (y .canonical2 .result) rm (y .canonical2 .ensures v gs rm) (d .if2 .left) in
     let cs = map inverted (common (v .order) (a .answer) (b .answer)) in
     let r = over-resolved v (a .answer) (b .answer) (a .list) (b .list) _ (o .over-common .ensures v (a .answer) (b .answer) (a .list) (b .list)) in
-    by-scales R (readyIf (v .order) true) fs gs w (a .answer) (a .is) (b .answer) (b .is) refl (c .scaling2 .ensures) (λ h.
+    by-scales R (readyIf (v .order) true) fs gs (tally w 0) (a .answer) (a .is) (b .answer) (b .is) w refl refl (c .scaling2 .ensures) (λ h.
     c .before .lessening .ensures v (a .answer) (b .answer) cs lends (a .list) (b .list) r w
-    ∙ goes-on R (readyIf (v .order) true) fs gs w (a .answer) (a .is) (b .answer) (b .is) _ _ (own-merged v fs gs rl rm (a .answer) (b .answer) (a .is) (b .is)) (over-merged v fs gs rl rm (a .answer) (b .answer) (a .is) (b .is))
+    ∙ goes-on R (readyIf (v .order) true) fs gs (tally w 0) (a .answer) (a .is) (b .answer) (b .is) _ _ (own-merged v fs gs rl rm (a .answer) (b .answer) (a .is) (b .is)) (over-merged v fs gs rl rm (a .answer) (b .answer) (a .is) (b .is))
     (neither-kept (g .zero) (s .same .ensures v (a .answer) (b .answer) (a .list) (b .list)) h (o .before .if3 .left)))
-    ∙ by-flag R v fs gs w (f .if4 .taken)
+    ∙ by-flag R v fs gs (tally w 0) (f .if4 .taken)
 
 apart-requires-2 : tie.Need-apart-requires-2
 apart-requires-2 c κs = search needs
@@ -142,17 +143,17 @@ returns-6 c v fs gs lends rl rm w only =
     let y = d .before .before in
     let x = y .before .before .before in
     let g = x .before .before .args in
-    let R = rulesBy v (g .n) in
+    let R = counted (rulesBy v (g .n)) in
     let a = canon-formed v _ fs (x .canonical .result) rl (x .canonical .ensures v fs rl) (y .before .if1 .left) in
     let b = canon-formed v _ gs (y .canonical2 .result) rm (y .canonical2 .ensures v gs rm) (d .if2 .left) in
     let cs = map inverted (common (v .order) (a .answer) (b .answer)) in
     let r = o .over-common .ensures v (a .answer) (b .answer) (a .list) (b .list) in
-    by-scales R standing fs gs w (a .answer) (a .is) (b .answer) (b .is) refl (c .scaling3 .ensures) (λ h.
+    by-scales R standing fs gs (tally w 0) (a .answer) (a .is) (b .answer) (b .is) w refl refl (c .scaling3 .ensures) (λ h.
     c .before .apart2 .ensures v fs (b .answer) lends rl (b .list) w
-    ∙ none-common R fs (b .answer) w cs (sym (len-items v cs _ r) ∙ c .before .before .if6 .taken)
-    ∙ own-given R standing fs gs w (a .answer) (a .is) (b .answer) (b .is) _ _ refl (over-merged v fs gs rl rm (a .answer) (b .answer) (a .is) (b .is))
+    ∙ none-common R fs (b .answer) (tally w 0) cs (sym (len-items v cs _ r) ∙ c .before .before .if6 .taken)
+    ∙ own-given R standing fs gs (tally w 0) (a .answer) (a .is) (b .answer) (b .is) _ _ refl (over-merged v fs gs rl rm (a .answer) (b .answer) (a .is) (b .is))
     (neither-kept (g .zero) (s .same .ensures v (a .answer) (b .answer) (a .list) (b .list)) h (o .before .if3 .left)) _ refl)
-    ∙ by-flag R v fs gs w (f .if4 .left)
+    ∙ by-flag R v fs gs (tally w 0) (f .if4 .left)
 
 unlike-requires : tie.Need-unlike-requires
 unlike-requires c κs = search needs
@@ -169,16 +170,16 @@ returns-7 c v fs gs lends rl rm w only =
     let y = d .before .before in
     let x = y .before .before .before in
     let g = x .before .before .args in
-    let R = rulesBy v (g .n) in
+    let R = counted (rulesBy v (g .n)) in
     let a = canon-formed v _ fs (x .canonical .result) rl (x .canonical .ensures v fs rl) (y .before .if1 .left) in
     let b = canon-formed v _ gs (y .canonical2 .result) rm (y .canonical2 .ensures v gs rm) (d .if2 .left) in
     let cs = map inverted (common (v .order) (a .answer) (b .answer)) in
     let r = over-resolved v (a .answer) (b .answer) (a .list) (b .list) _ (o .over-common .ensures v (a .answer) (b .answer) (a .list) (b .list)) in
-    by-scales R standing fs gs w (a .answer) (a .is) (b .answer) (b .is) refl (c .scaling4 .ensures) (λ h.
+    by-scales R standing fs gs (tally w 0) (a .answer) (a .is) (b .answer) (b .is) w refl refl (c .scaling4 .ensures) (λ h.
     c .before .unlike .ensures v fs (b .answer) cs lends rl (b .list) r w
-    ∙ own-given R standing fs gs w (a .answer) (a .is) (b .answer) (b .is) _ _ refl (over-merged v fs gs rl rm (a .answer) (b .answer) (a .is) (b .is))
+    ∙ own-given R standing fs gs (tally w 0) (a .answer) (a .is) (b .answer) (b .is) _ _ refl (over-merged v fs gs rl rm (a .answer) (b .answer) (a .is) (b .is))
     (neither-kept (g .zero) (s .same .ensures v (a .answer) (b .answer) (a .list) (b .list)) h (o .before .if3 .left)) _ refl)
-    ∙ by-flag R v fs gs w (f .if4 .left)
+    ∙ by-flag R v fs gs (tally w 0) (f .if4 .left)
 
 pub by-rule-spec : {M : Type 1} → statement M
 by-rule-spec =
