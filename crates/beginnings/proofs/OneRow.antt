@@ -22,7 +22,7 @@ use Rattle.tables.specs.declared.Slot.{Slot}
 use Rattle.tables.specs.Lists.{base_at, base}
 use Rattle.tables.specs.Scale.{doubles, scale, size_by}
 use Rattle.tables.specs.Held.{no_slot}
-use Rattle.tables.specs.Rows.{Facts, nobody, exp_at, scale_at, bases, def_of, is_base, count, table_fault, self_exp, row_exps, row_scale_lem, worked_out, row_facts}
+use Rattle.tables.specs.Rows.{Facts, nobody, exp_at, scale_at, bases, def_of, is_base, count, table_fault, self_exp, row_exps, row_scale, worked_out, row_facts}
 use Rattle.tables.proofs.Terms.{get_map, long_bases, get_bases}
 use Rattle.tables.proofs.Working.{self_other}
 use Rattle.beginnings.proofs.Matched.{Matched, answers, matched_unless, matched_imp, matched_bind, matched_same}
@@ -47,8 +47,8 @@ fault_bare : (js : List Facts) (r : Row) → table_fault (map bare js) r ≡ tab
 unfolding table_fault
 fault_bare js r = rw (some_bare r.rank js, count_bare js, length-map js bare)
 
-scale_bare : (k : Kind) (js : List Facts) (r : Row) → row_scale_lem k (map bare js) r ≡ row_scale_lem k js r
-unfolding row_scale_lem scale_at
+scale_bare : (k : Kind) (js : List Facts) (r : Row) → row_scale k (map bare js) r ≡ row_scale k js r
+unfolding row_scale scale_at
 scale_bare Base js r = refl
 scale_bare (Derived f) js r = λ i. apply (mul binary64 f) (scale doubles (size_by (λ q. (get_or-map bare js q nobody i).scale)) (def_of r))
 
@@ -137,8 +137,8 @@ module _ (n : ℕ) (ss ts : List Slot) (js ks : List Facts) (a : Alike n ss ts j
   own_zero (Derived f) l h s p = base-zero l _ h λ q. a.zeros q s (omega arith)
 
   module _ (r : Row) where
-    scales : row_scale_lem r.kind js r ≡ row_scale_lem r.kind ks r
-    scales = sym (scale_bare r.kind js r) ∙ ap (λ l. row_scale_lem r.kind l r) a.rest ∙ scale_bare r.kind ks r
+    scales : row_scale r.kind js r ≡ row_scale r.kind ks r
+    scales = sym (scale_bare r.kind js r) ∙ ap (λ l. row_scale r.kind l r) a.rest ∙ scale_bare r.kind ks r
 
     faults : table_fault js r ≡ table_fault ks r
     faults = sym (fault_bare js r) ∙ ap (λ l. table_fault l r) a.rest ∙ fault_bare ks r
@@ -155,7 +155,7 @@ module _ (n : ℕ) (ss ts : List Slot) (js ks : List Facts) (a : Alike n ss ts j
       worked h =
           matched_bind _ _ (exps h) λ es ds e.
           matched_bind _ _ (key_spread (suc n) l ss ts b c es ds e) λ u v _.
-          matched_bind _ _ (rw (← scales) (matched_same (row_scale_lem r.kind js r))) λ x y z.
+          matched_bind _ _ (rw (← scales) (matched_same (row_scale r.kind js r))) λ x y z.
           answers (record { rank = refl; rest = ap (λ w. record { exps = []; key = []; scale = w; rank = r.rank; base = is_base r.kind }) z; exps = e })
 
     -- admitted over both, or refused alike: TABLE by what all rows show, then the rest

@@ -10,7 +10,7 @@ use Rattle.exponents.proofs.Rationals as rational
 use Rattle.units.specs.declared.Factor.{Factor}
 use Rattle.units.specs.declared.Factors.{Factors}
 use Rattle.units.specs.declared.Quantity.{Quantity}
-use Rattle.units.specs.Modes.{Table}
+use Rattle.units.specs.declared.Rows.{Rows}
 use Rattle.units.specs.Lists.{both}
 use Rattle.tables.specs.Rows.{Facts, table}
 use Rattle.tables.specs.Order.{atom, of, order_in}
@@ -37,10 +37,10 @@ apply_reach : {A B : Type 0} (f : A → B) (o : Outcome A) → InReach (apply f 
 apply_reach f o h r k e = h r k (ap (apply f) e)
 
 -- in a table one row and prefix have one size, whatever the exponent
-one_size : (t : Table) (ks : List Facts) (f g : Factor) → atom f ≡ atom g → (rules_in t ks).size f ≡ (rules_in t ks).size g
+one_size : (t : Rows) (ks : List Facts) (f g : Factor) → atom f ≡ atom g → (rules_in t ks).size f ≡ (rules_in t ks).size g
 one_size t ks f g e = ap (λ u. (rules_in t ks).size (of u f.exponent)) e
 
-module _ (t : Table) (q : Quantity) (m : Factors) where
+module _ (t : Rows) (q : Quantity) (m : Factors) where
   -- ---- before the conversion
 
   -- THEOREM: a table that is refused is refused alike by both

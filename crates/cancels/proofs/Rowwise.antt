@@ -18,14 +18,14 @@ use Rattle.units.specs.declared.Kind.{Kind}
 use Rattle.units.specs.declared.Kind.TheVariants.{Base, Derived}
 use Rattle.units.specs.declared.Quantity.{Quantity}
 use Rattle.units.specs.declared.Row.{Row}
-use Rattle.units.specs.Modes.{Table}
+use Rattle.units.specs.declared.Rows.{Rows}
 use Rattle.units.specs.Lists.{no_factor, unknown, both}
 use Rattle.units.specs.Prefixes.{factor_of}
 use Rattle.keys.specs.Key.{key}
 use Rattle.tables.specs.declared.Slot.{Slot}
 use Rattle.tables.specs.Lists.{base}
 use Rattle.tables.specs.Scale.{doubles, scale, size_by}
-use Rattle.tables.specs.Rows.{Facts, scale_at, self_exp, def_of, is_base, row_exps, row_scale_lem, row_facts, slotted, slots_from, slots, admitted, admit_from, rows_in, table}
+use Rattle.tables.specs.Rows.{Facts, scale_at, self_exp, def_of, is_base, row_exps, row_scale, row_facts, slotted, slots_from, slots, admitted, admit_from, rows_of, table}
 use Rattle.tables.specs.Order.{order_in}
 use Rattle.tables.proofs.Filled.{Known, known, admit_on_lem, lower, admit-rows}
 use Rattle.resolution.proofs.Keyed.{admits}
@@ -91,8 +91,8 @@ module _ (S : ℕ → Type 0) where
     exps_same (Derived f) Base e = absurd (false≢true e)
     exps_same (Derived f) (Derived f') e = ap₂ base (bare_bases js js' c.bares (length ss)) b.def
 
-    scale_same : (k : Kind) → All (λ f. scale_at js f.row ≡ scale_at js' f.row) (def_of r) → row_scale_lem k js r ≡ row_scale_lem k js' r'
-    unfolding row_scale_lem
+    scale_same : (k : Kind) → All (λ f. scale_at js f.row ≡ scale_at js' f.row) (def_of r) → row_scale k js r ≡ row_scale k js' r'
+    unfolding row_scale
     scale_same Base h = refl
     scale_same (Derived f) h =
         ap (apply (mul binary64 f))
@@ -111,7 +111,7 @@ module _ (S : ℕ → Type 0) where
       scale_stays s =
           let below = each_faultless (unknown (length js)) (def_of r) (lower js r p.table) in
           let agree = all_imp (def_of r) (λ f h. c.scales f.row (h.0 (ltb-true f.row (length js) (not-false _ h.1)))) (all_both _ _ (def_of r) (b.stays s).1 below) in
-          one_answer (sym p.scale ∙ scale_same r.kind agree ∙ ap (λ q. row_scale_lem q js' r') (b.stays s).0 ∙ p'.scale)
+          one_answer (sym p.scale ∙ scale_same r.kind agree ∙ ap (λ q. row_scale q js' r') (b.stays s).0 ∙ p'.scale)
 
       close_on : Close (js ++ (k ∷ [])) (js' ++ (k' ∷ []))
       close_on = record {
@@ -135,13 +135,13 @@ module _ (S : ℕ → Type 0) where
       (subst (λ n. Rowwise n rs rs') (omega (arith, length-append js (k ∷ []))) h.1) b b'
 
   -- ---- two admitted tables, row for row
-  module _ (t t' : Table) (ks ks' : List Facts) (k : table t ≡ given ks) (k' : table t' ≡ given ks') (h : Rowwise 0 (rows_in t) (rows_in t')) where
+  module _ (t t' : Rows) (ks ks' : List Facts) (k : table t ≡ given ks) (k' : table t' ≡ given ks') (h : Rowwise 0 (rows_of t) (rows_of t')) where
     -- are known alike but for scales, and these too where S holds
     pub rows-close : Close ks ks'
     rows-close =
-        close (slots (rows_in t)) [] [] (rows_in t) (rows_in t') ks ks' (record { bares = refl; scales = λ i s. refl }) h
+        close (slots (rows_of t)) [] [] (rows_of t) (rows_of t') ks ks' (record { bares = refl; scales = λ i s. refl }) h
         (admit-rows t ks (admits t ks k))
-        (subst (λ ss. admit_from ss [] (rows_in t') ≡ admitted ks') (sym (slots_same 0 [] (rows_in t) (rows_in t') h)) (admit-rows t' ks' (admits t' ks' k')))
+        (subst (λ ss. admit_from ss [] (rows_of t') ≡ admitted ks') (sym (slots_same 0 [] (rows_of t) (rows_of t') h)) (admit-rows t' ks' (admits t' ks' k')))
 
     -- and convert alike where S holds of the rows that the reduced lists name
     pub rows_unread : (q : Quantity) (m : Factors) →
@@ -174,9 +174,9 @@ module _ (a b : List Row) (r r' : Row) where
   one_row w i [] e = (record { rank = w.rank; def = w.def; base = ap is_base w.kind ∙ sym (ap is_base w.kind'); stays = λ o. absurd (o (omega arith)) }, behind (suc i) b w.unnamed)
   one_row w i (s ∷ l) e = (record { rank = refl; def = refl; base = refl; stays = λ _. (refl, all_by _ no_factor (def_of s) λ j _ p q. omega arith) }, one_row w (suc i) l (omega arith))
 
-  module _ (t t' : Table) (ks ks' : List Facts) (k : table t ≡ given ks) (k' : table t' ≡ given ks') (rows : rows_in t ≡ a ++ (r ∷ b)) (rows' : rows_in t' ≡ a ++ (r' ∷ b)) (w : FactorAlone) where
-    row_rowwise : Rowwise Other 0 (rows_in t) (rows_in t')
-    row_rowwise = subst (λ l. Rowwise Other 0 l (rows_in t')) (sym rows) (subst (λ l. Rowwise Other 0 (a ++ (r ∷ b)) l) (sym rows') (one_row w 0 a (omega arith)))
+  module _ (t t' : Rows) (ks ks' : List Facts) (k : table t ≡ given ks) (k' : table t' ≡ given ks') (rows : rows_of t ≡ a ++ (r ∷ b)) (rows' : rows_of t' ≡ a ++ (r' ∷ b)) (w : FactorAlone) where
+    row_rowwise : Rowwise Other 0 (rows_of t) (rows_of t')
+    row_rowwise = subst (λ l. Rowwise Other 0 l (rows_of t')) (sym rows) (subst (λ l. Rowwise Other 0 (a ++ (r ∷ b)) l) (sym rows') (one_row w 0 a (omega arith)))
 
     -- the tables are known alike but for that row's scale
     pub row_close : Close Other ks ks'

@@ -17,14 +17,14 @@ use Rattle.units.specs.declared.Factor.{Factor}
 use Rattle.units.specs.declared.Factors.{Factors}
 use Rattle.units.specs.declared.Quantity.{Quantity}
 use Rattle.units.specs.declared.Row.{Row}
-use Rattle.units.specs.Modes.{Table}
+use Rattle.units.specs.declared.Rows.{Rows}
 use Rattle.units.specs.Lists.{both}
 use Rattle.units.specs.Prefixes.{factor_of}
 use Rattle.keys.specs.Orders.{then, lists, pairs}
 use Rattle.keys.specs.Key.{entries}
 use Rattle.tables.specs.Lists.{base}
 use Rattle.tables.specs.Scale.{Numbers, raised_to, scale_from_lem}
-use Rattle.tables.specs.Rows.{Facts, nobody, exp_at, scale_at, places, bases, slots, admitted, admit_from, rows_in, table, base_rows}
+use Rattle.tables.specs.Rows.{Facts, nobody, exp_at, scale_at, places, bases, slots, admitted, admit_from, rows_of, table, base_rows}
 use Rattle.tables.specs.Order.{Atom, key_order, row_order, order, order_in}
 use Rattle.tables.specs.Rules.{Rules, rules_in}
 use Rattle.tables.proofs.Filled.{admit-rows, table-length}
@@ -123,11 +123,11 @@ module _ (ks ks' : List Facts) (e : map bare ks ≡ map bare ks') where
       sym (table_sound _ (r ∷ rs) ks a r 0 (omega arith)).sized ∙ ap (λ (k : Facts). length k.exps) (bare_at 0) ∙ (table_sound _ (r' ∷ rs') ks' a' r' 0 (omega arith)).sized
 
 -- two admitted tables that differ in scales alone
-module _ (t t' : Table) (ks ks' : List Facts) (k : table t ≡ given ks) (k' : table t' ≡ given ks') (e : map bare ks ≡ map bare ks') where
+module _ (t t' : Rows) (ks ks' : List Facts) (k : table t ≡ given ks) (k' : table t' ≡ given ks') (e : map bare ks ≡ map bare ks') where
   like : Like (rules_in t ks) (rules_in t' ks')
   like = record {
     order = bare_order ks ks' e;
-    bases = bare_bases ks ks' e (length (base_rows t)) ∙ ap (λ n. bases n ks') (bare_slots ks ks' e (rows_in t) (rows_in t') (admit-rows t ks (admits t ks k)) (admit-rows t' ks' (admits t' ks' k')));
+    bases = bare_bases ks ks' e (length (base_rows t)) ∙ ap (λ n. bases n ks') (bare_slots ks ks' e (rows_of t) (rows_of t') (admit-rows t ks (admits t ks k)) (admit-rows t' ks' (admits t' ks' k')));
     numbers = refl;
   }
 

@@ -13,7 +13,6 @@ use Rattle.exponents.proofs.Value.{Value}
 use Rattle.exponents.proofs.Totals.{worth}
 use Rattle.units.specs.declared.Factor.{Factor}
 use Rattle.units.specs.declared.Kind.TheVariants.{Derived}
-use Rattle.units.specs.declared.Mode.{Mode}
 use Rattle.units.specs.declared.Row.{Row}
 use Rattle.units.specs.Lists.{raised}
 use Rattle.tables.specs.Rows.{Facts, exp_at, places, bases, def_of, admitted, admit_from}
@@ -42,7 +41,7 @@ module _ (W : Value) where
       Holds (λ p. exact W (l ++ (p ++ m)) b ≡ exact W (l ++ (f ∷ m)) b) (each (raised f.exponent) d)
   exact_define f d l m b h = holds_imp (exact_power W f.exponent d b) λ p q. simp (exact_join W, cons W, q, h)
 
-  module _ (md : Mode) (ss : List Slot) (rs : List Row) (ks : List Facts) (h : admit_from md ss [] rs ≡ admitted ks) where
+  module _ (ss : List Slot) (rs : List Row) (ks : List Facts) (h : admit_from ss [] rs ≡ admitted ks) where
     -- in an admitted table, at all base rows
     pub define : (d : Row) (f : Factor) → f.row < length rs → (v : Float) → (get_or rs f.row d).kind ≡ Derived v → (l m : List Factor) →
         Holds (λ p. Agree W (bases (length ss) ks) (l ++ (p ++ m)) (l ++ (f ∷ m))) (each (raised f.exponent) (def_of (get_or rs f.row d)))
@@ -53,4 +52,4 @@ module _ (W : Value) where
         take_out (exact_define f (def_of (get_or rs f.row d)) l m (exp_at ks j) (sym (is j (omega arith)))) q
       where
         is : (j : ℕ) → j < length ss → exact W (def_of (get_or rs f.row d)) (exp_at ks j) ≡ worth W (exp_at ks j f.row)
-        is j h' = (along_at (exp_at ks) 0 (length ss) (take_out (base_exact W (bases (length ss) ks) (def_of (get_or rs f.row d))) (derived_exps md ss rs ks h d f.row r v e)) j j (omega arith) h').is
+        is j h' = (along_at (exp_at ks) 0 (length ss) (take_out (base_exact W (bases (length ss) ks) (def_of (get_or rs f.row d))) (derived_exps ss rs ks h d f.row r v e)) j j (omega arith) h').is

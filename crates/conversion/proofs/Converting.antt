@@ -28,7 +28,7 @@ use Rattle.conversion.specs.Conversion.{judged, choose, rescaled, against, unlik
 use Rattle.conversion.specs.Held.{tally_by, scales_alone, counted_by}
 use Rattle.conversion.specs.declared.convert.Scales.{Scales}
 use Rattle.conversion.specs.declared.convert.Rate.{Rate}
-use Rattle.conversion.proofs.Rating.{count-scaled}
+use Rattle.conversion.proofs.Rating.{count_scaled}
 use Rattle.common.proofs.Lessening.{lessen_none}
 
 -- base exponents compared as code holds them
@@ -133,7 +133,7 @@ module _ (R : Rules Tally) where
 
         -- lists that differ: a zero stays, and any other value goes by two scales
         pub by_scales : (y : Float) → x ≡ tally y 0 → (R.numbers.is_zero x ≡ is_zero y) → {r : Rate} {s : Scales} → r ≡ scales_alone s → (is_zero y ≡ false → tally_by s y ≡ tallied_of converted) → counted_by r y ≡ tallied_of converted
-        by_scales y f z {r} {s} e goes = count-scaled s y e (λ h. ap Value (sym f) ∙ keeps_value (ap (λ t. t || same_list R.order cl cm) (z ∙ h))) goes
+        by_scales y f z {r} {s} e goes = count_scaled s y e (λ h. ap Value (sym f) ∙ keeps_value (ap (λ t. t || same_list R.order cl cm) (z ∙ h))) goes
 
         -- own and target over the common factors, as code has them
         module _ (own target : Outcome (List Factor)) (e : ready (over l (common R.order cl cm)) ≡ own) (f : canon R.order (over m (common R.order cl cm)) ≡ target) (h : (R.numbers.is_zero x || same_list R.order cl cm) ≡ false) where

@@ -15,12 +15,12 @@ use Rattle.floats.specs.Power.{one, bits_of, raise, power}
 use Rattle.units.specs.declared.Prefix.TheVariants.{Metric}
 use Rattle.units.specs.declared.Factor.{Factor}
 use Rattle.units.specs.declared.Kind.TheVariants.{Base, Derived}
-use Rattle.units.specs.Modes.{plain, Table, in_mode}
+use Rattle.units.specs.declared.Rows.{Rows}
 use Rattle.units.specs.Lists.{factor_fault, some, with_exponent, inverted}
 use Rattle.keys.specs.Key.{multiple, whole, wholes, divisor, below, turn, shrink, reduce, key, entry, entries}
 use Rattle.tables.specs.Lists.{base_at, base}
-use Rattle.tables.specs.Scale.{rooted_in, raise as raisedBy, raised_to, scale_from_lem}
-use Rattle.tables.specs.Rows.{Facts, exp_at, scale_at, places, placed, slotted, slots_from, is_base, count, kind_fault, table_fault, row_exps, row_scale_lem, worked_out, row_facts, admitted, admit_from, admit}
+use Rattle.tables.specs.Scale.{raise as raisedBy, raised_to, scale_from_lem}
+use Rattle.tables.specs.Rows.{Facts, exp_at, scale_at, places, placed, slotted, slots_from, is_base, count, kind_fault, table_fault, row_exps, row_scale, worked_out, row_facts, admitted, admit_from, admit}
 use Rattle.tables.specs.Order.{key_order, row_order}
 use Rattle.tables.specs.Rules.{rules_in}
 use Rattle.canonical.specs.Canonical.{place, insert, gather, drop_if, nonzero, canon, same_list, same_all}
@@ -34,7 +34,7 @@ use Rattle.conversion.proofs.Ready.{stands}
 use Rattle.conversion.proofs.Faithful as f
 
 -- any table t, its rows known as ks
-module _ (t : Table) (ks : List Facts) where
+module _ (t : Rows) (ks : List Facts) where
   abbrev pub Right : (List Factor → List Factor → Float → Outcome Float) → Type 0
   Right f = Faithful (rules_in t ks) rational.value standing f
 
@@ -53,15 +53,15 @@ sixty = of_bits ieee.binary64 0x404e_0000_0000_0000
 abbrev pub unit_of : ℕ → List Factor
 unit_of r = record { row = r; prefix = Metric (pos 0); exponent = record { num = pos 1; den = 1 } } ∷ []
 
-abbrev pub rows : Table
-rows = in_mode plain (record {
+abbrev pub rows : Rows
+rows = record {
   at =
       record { def = []; len = 0; rank = 0; kind = Base }
       ∷ record { def = []; len = 0; rank = 1; kind = Base }
       ∷ record { def = unit_of 1; len = 1; rank = 2; kind = Derived sixty }
       ∷ [];
   len = 3;
-})
+}
 
 -- what is known of its rows
 
@@ -73,12 +73,12 @@ table = row (pos 1) (pos 0) one 0 true ∷ row (pos 0) (pos 1) one 1 true ∷ ro
 
 -- `unfolding computed` opens what a conversion computes with
 unfoldable computed : Unit {0}
-unfolding worked bind each bits_of raise power mul div eq to_bits of_bits inverted with_exponent entry entries base_at base raisedBy raised_to rooted_in scale_from_lem exp_at scale_at places placed slotted slots_from key_order row_order place insert gather drop_if nonzero canon is_eq same_list same_all meet if_same with_shared shared_with_lem common judged choose rescaled against unlike convert_by
+unfolding worked bind each bits_of raise power mul div eq to_bits of_bits inverted with_exponent entry entries base_at base raisedBy raised_to scale_from_lem exp_at scale_at places placed slotted slots_from key_order row_order place insert gather drop_if nonzero canon is_eq same_list same_all meet if_same with_shared shared_with_lem common judged choose rescaled against unlike convert_by
 computed = tt
 
 -- the table is admitted, and known as that
 pub admits : admit rows ≡ admitted table
-unfolding computed outcome.unless some factor_fault multiple whole wholes divisor below turn shrink reduce key is_base count kind_fault table_fault row_exps row_scale_lem worked_out row_facts admit_from admit
+unfolding computed outcome.unless some factor_fault multiple whole wholes divisor below turn shrink reduce key is_base count kind_fault table_fault row_exps row_scale worked_out row_facts admit_from admit
 admits = refl
 
 abbrev conversion : List Factor → List Factor → Float → Outcome Float

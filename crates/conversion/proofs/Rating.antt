@@ -42,9 +42,9 @@ pub scaled_none : (s : Scales) (x : Float) → s.refusal ≡ 0 → Value (div bi
 unfolding scaled_by
 scaled_none s x h = rw h
 
-pub scaled-some : (s : Scales) (x : Float) → (s.refusal ≡ 0 → ⊥) → Refused s.refusal ≡ scaled_by s x
+pub scaled_some : (s : Scales) (x : Float) → (s.refusal ≡ 0 → ⊥) → Refused s.refusal ≡ scaled_by s x
 unfolding scaled_by
-scaled-some s x h = rw (ne_eqb s.refusal 0 h)
+scaled_some s x h = rw (ne_eqb s.refusal 0 h)
 
 -- ---- a conversion of any value
 
@@ -69,9 +69,9 @@ pub count_kept : {r : Rate} (x : Float) {c : Tallied} → r ≡ kept → tallied
 unfolding counted_by rated_by took_by
 count_kept {r} x e k = ap (λ r. counted_by r x) e ∙ rw (or_true (is_zero x)) k
 
-pub count-scaled : {r : Rate} (s : Scales) (x : Float) {c : Tallied} → r ≡ scales_alone s → (is_zero x ≡ true → tallied.Value (tally x 0) ≡ c) → (is_zero x ≡ false → tally_by s x ≡ c) → counted_by r x ≡ c
+pub count_scaled : {r : Rate} (s : Scales) (x : Float) {c : Tallied} → r ≡ scales_alone s → (is_zero x ≡ true → tallied.Value (tally x 0) ≡ c) → (is_zero x ≡ false → tally_by s x ≡ c) → counted_by r x ≡ c
 unfolding counted_by rated_by took_by tally_by
-count-scaled {r} s x {c} e zero nonzero = ap (λ r. counted_by r x) e ∙ ap (λ t. with_count (pick t 0 s.count) (pick t (Value x) (scaled_by s x))) (or_none (is_zero x)) ∙ go (is_zero x) refl
+count_scaled {r} s x {c} e zero nonzero = ap (λ r. counted_by r x) e ∙ ap (λ t. with_count (pick t 0 s.count) (pick t (Value x) (scaled_by s x))) (or_none (is_zero x)) ∙ go (is_zero x) refl
   where
     go : (t : Bool) → is_zero x ≡ t → with_count (pick t 0 s.count) (pick t (Value x) (scaled_by s x)) ≡ c
     go true h = zero h

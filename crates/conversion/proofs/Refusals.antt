@@ -83,18 +83,17 @@ fraction_only S h fraction = only h
 fraction_only S h worked = fine
 
 module _ {A : Type 0} (R : Rules A) where
-  raise_is : (w o r : Bool) (p u q : A) (k : A → Outcome A) (t : Bool) → ((x : A) → Fraction t (k x)) → Fraction ((not w && not o && not r) || t) (bind (raise w o r p u q) k)
+  raise_is : (w o : Bool) (p u : A) (k : A → Outcome A) (t : Bool) → ((q : A) → Fraction t (k q)) → Fraction ((not w && not o) || t) (bind (raise w o p u) k)
   unfolding raise bind
-  raise_is true o r p u q k t h = h p
-  raise_is false true r p u q k t h = h u
-  raise_is false false true p u q k t h = h q
-  raise_is false false false p u q k t h = fraction
+  raise_is true o p u k t h = h p
+  raise_is false true p u k t h = h u
+  raise_is false false p u k t h = fraction
 
-  -- FRACTION exactly where a size other than 1 meets an exponent that isn't whole, and has no root of its degree
+  -- FRACTION exactly where a size other than 1 meets an exponent that isn't whole
   pub scale_is : (s : A) (l : List Factor) → Fraction (fractional R l) (scale_from_lem R.numbers R.size s l)
   unfolding scale_from_lem raised_to fractional
   scale_is s [] = worked
-  scale_is s (f ∷ l) = raise_is (eqb f.exponent.den 1) (R.numbers.exactly_one (R.size f)) (R.numbers.rooted (R.size f) f.exponent.den) _ _ _ _ (fractional R l) λ q. scale_is (R.numbers.times s q) l
+  scale_is s (f ∷ l) = raise_is (eqb f.exponent.den 1) (R.numbers.exactly_one (R.size f)) _ _ _ (fractional R l) λ q. scale_is (R.numbers.times s q) l
 
   both_is : (a b : Bool) (o p : Outcome A) (f : A → A → A) → Fraction a o → Fraction b p → Fraction (a || b) (bind o (λ s. apply (f s) p))
   unfolding bind

@@ -9,7 +9,7 @@ use Rattle.floats.specs.Power.{tally}
 use Rattle.floats.specs.declared.Tally.{Tally}
 use Rattle.units.specs.declared.Factor.{Factor}
 use Rattle.units.specs.declared.Quantity.{Quantity}
-use Rattle.units.specs.Modes.{Table}
+use Rattle.units.specs.declared.Rows.{Rows}
 use Rattle.tables.specs.Rows.{Facts}
 use Rattle.tables.specs.Rules.{Rules, rules_in, counted}
 use Rattle.lists.proofs.Ends.{handed}
@@ -19,7 +19,7 @@ use Rattle.counted.specs.declared.Counted.{Counted}
 use Rattle.counted.specs.Calls.{not_counted, counted_of}
 
 -- a call's own work, by f
-abbrev pub work : (Rules Tally → List Factor → List Factor → Tally → Outcome Tally) → Table → Float → List Facts → List Factor → List Factor → Outcome (Quantity × ℕ)
+abbrev pub work : (Rules Tally → List Factor → List Factor → Tally → Outcome Tally) → Rows → Float → List Facts → List Factor → List Factor → Outcome (Quantity × ℕ)
 work f t y ks fs gs = apply (λ v. (fresh v.value gs, v.count)) (f (counted (rules_in t ks)) fs gs (tally y 0))
 
 pub not_counted_lem : (o : Outcome (Quantity × ℕ)) (n : ℕ) → Refuses o n → not_counted n ≡ counted_of o

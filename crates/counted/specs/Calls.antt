@@ -6,7 +6,7 @@ use Rattle.floats.specs.declared.Tally.{Tally}
 use Rattle.units.specs.declared.Factor.{Factor}
 use Rattle.units.specs.declared.Factors.{Factors}
 use Rattle.units.specs.declared.Quantity.{Quantity}
-use Rattle.units.specs.Modes.{Table}
+use Rattle.units.specs.declared.Rows.{Rows}
 use Rattle.units.specs.Lists.{both}
 use Rattle.tables.specs.Rows.{table}
 use Rattle.tables.specs.Rules.{Rules, rules_in, counted}
@@ -14,7 +14,7 @@ use Rattle.conversion.specs.Conversion.{convert, cancelling}
 use Rattle.values.specs.Quantities.{fresh, no_quantity}
 use Rattle.counted.specs.declared.Counted.{Counted}
 
-module _ (t : Table) where
+module _ (t : Rows) where
   -- by f, which converts numbers between lists by a table's rules
   abbrev pub count_with_lem : (Rules Tally → List Factor → List Factor → Tally → Outcome Tally) → Quantity → Factors → Outcome (Quantity × ℕ)
   count_with_lem f q m = bind (table t) (λ ks. bind (both (length ks) q.unit m) (λ p. apply (λ v. (fresh v.value p.1, v.count)) (f (counted (rules_in t ks)) p.0 p.1 (tally q.value 0))))

@@ -5,7 +5,7 @@ ghost use Rattle.exponents.specs.Outcome.{Outcome, apply};
 ghost use Rattle.floats.specs.declared.Tally.{Tally as Tallyᵛ};
 ghost use Rattle.units.specs.declared.Factor.{Factor as Factorᵛ};
 ghost use Rattle.units.specs.declared.Factors.{Factors as Factorsᵛ};
-ghost use Rattle.units.specs.Modes.{plain, Table, in_mode};
+ghost use Rattle.units.specs.declared.Rows.{Rows as Rowsᵛ};
 ghost use Rattle.tables.specs.Held.{tallied_of, View, Resolved};
 ghost use Rattle.lists.specs.Held.{Opens};
 ghost use Rattle.values.specs.Quantities.{fresh};
@@ -15,7 +15,7 @@ ghost use Rattle.counted.specs.Calls.{not_counted, counted_of};
 use lists::opening::Opened;
 use tables::Items;
 use tables::scales::Tallied;
-use units::{Factors, Mode, Quantity, Rows};
+use units::{Factors, Quantity, Rows};
 use values::answers;
 
 // A converted quantity and the multiplications that the conversion took; or the number of the refusal, beside the empty quantity and 0.
@@ -59,7 +59,7 @@ fn in_target(c: Tallied, b: Items) -> Counted
 
 // Over the opened table and lists.
 pub fn convert_to_counted_over(o: Opened, q: Quantity, nums: &[i32], dens: &[u32]) -> Counted
-    ensures { (rows : Table) (target : Factorsᵛ) → Opens rows q.unit target o nums.now dens.now → result ≡ counted_of (spec.convert_to_counted rows q target) }
+    ensures { (rows : Rowsᵛ) (target : Factorsᵛ) → Opens rows q.unit target o nums.now dens.now → result ≡ counted_of (spec.convert_to_counted rows q target) }
 {
     if o.refusal != 0 {
         return refused(o.refusal);
@@ -71,27 +71,21 @@ pub fn convert_to_counted_over(o: Opened, q: Quantity, nums: &[i32], dens: &[u32
     in_target(c, b)
 }
 
-pub fn convert_to_counted_in(mode: Mode, rows: Rows, q: Quantity, target: Factors) -> Counted
-    ensures { result ≡ counted_of (spec.convert_to_counted (in_mode mode rows) q target) }
+pub fn convert_to_counted(rows: Rows, q: Quantity, target: Factors) -> Counted
+    ensures { result ≡ counted_of (spec.convert_to_counted rows q target) }
 {
     let mut nums = [0i32; 2048];
     let mut dens = [1u32; 2048];
     let u = q.unit;
-    let o = lists::opening::open_lists(mode, rows, u, target, &mut nums, &mut dens);
+    let o = lists::opening::open_lists(rows, u, target, &mut nums, &mut dens);
     convert_to_counted_over(o, q, &nums, &dens)
-}
-
-pub fn convert_to_counted(rows: Rows, q: Quantity, target: Factors) -> Counted
-    ensures { result ≡ counted_of (spec.convert_to_counted (in_mode plain rows) q target) }
-{
-    convert_to_counted_in(units::modes::PLAIN, rows, q, target)
 }
 
 // ---- with factors cancelled on both sides (02, order 3)
 
 // Over the opened table and lists.
 pub fn convert_merged_counted_over(o: Opened, q: Quantity, nums: &[i32], dens: &[u32]) -> Counted
-    ensures { (rows : Table) (target : Factorsᵛ) → Opens rows q.unit target o nums.now dens.now → result ≡ counted_of (spec.convert_merged_counted rows q target) }
+    ensures { (rows : Rowsᵛ) (target : Factorsᵛ) → Opens rows q.unit target o nums.now dens.now → result ≡ counted_of (spec.convert_merged_counted rows q target) }
 {
     if o.refusal != 0 {
         return refused(o.refusal);
@@ -103,18 +97,12 @@ pub fn convert_merged_counted_over(o: Opened, q: Quantity, nums: &[i32], dens: &
     in_target(c, b)
 }
 
-pub fn convert_merged_counted_in(mode: Mode, rows: Rows, q: Quantity, target: Factors) -> Counted
-    ensures { result ≡ counted_of (spec.convert_merged_counted (in_mode mode rows) q target) }
+pub fn convert_merged_counted(rows: Rows, q: Quantity, target: Factors) -> Counted
+    ensures { result ≡ counted_of (spec.convert_merged_counted rows q target) }
 {
     let mut nums = [0i32; 2048];
     let mut dens = [1u32; 2048];
     let u = q.unit;
-    let o = lists::opening::open_lists(mode, rows, u, target, &mut nums, &mut dens);
+    let o = lists::opening::open_lists(rows, u, target, &mut nums, &mut dens);
     convert_merged_counted_over(o, q, &nums, &dens)
-}
-
-pub fn convert_merged_counted(rows: Rows, q: Quantity, target: Factors) -> Counted
-    ensures { result ≡ counted_of (spec.convert_merged_counted (in_mode plain rows) q target) }
-{
-    convert_merged_counted_in(units::modes::PLAIN, rows, q, target)
 }

@@ -18,7 +18,7 @@ use Rattle.floats.specs.declared.Tally.{Tally}
 use Rattle.units.specs.declared.Factor.{Factor}
 use Rattle.units.specs.declared.Factors.{Factors}
 use Rattle.units.specs.declared.Quantity.{Quantity}
-use Rattle.units.specs.Modes.{Table}
+use Rattle.units.specs.declared.Rows.{Rows}
 use Rattle.units.specs.Lists.{list_of, factor_fault, some, checked, both}
 use Rattle.tables.specs.Rows.{Facts, table}
 use Rattle.tables.specs.Order.{order_in}
@@ -65,7 +65,7 @@ merging ks = canon (order_in ks)
 abbrev pub quantity_of : Outcome (Quantity × ℕ) → Outcome Quantity
 quantity_of o = apply (λ p. p.0) o
 
-module _ (t : Table) (q : Quantity) (m : Factors) where
+module _ (t : Rows) (q : Quantity) (m : Factors) where
   -- ---- values and refusals
 
   both_stay : (f : Rules Tally → List Factor → List Factor → Tally → Outcome Tally) (g : Rules Float → List Factor → List Factor → Float → Outcome Float) →
@@ -144,7 +144,7 @@ module _ (t : Table) (q : Quantity) (m : Factors) where
       (λ n c. merged-most (rules_in t c.ks) (in_order c.ks) 16 c.own c.target c.own_short c.target-short (tally q.value 0) n c.exactly)
 
 -- ---- knots: each is converted by order 3's rule, and its conversion counted
-module _ (t : Table) (m : Factors) where
+module _ (t : Rows) (m : Factors) where
   -- what all of them take; one that is refused counts 0
   unfoldable pub spent : List Quantity → ℕ
   spent [] = 0

@@ -15,7 +15,7 @@ use Rattle.units.specs.declared.Prefix.{Prefix}
 use Rattle.units.specs.declared.Prefix.TheVariants.{Metric, Binary}
 use Rattle.units.specs.declared.Kind.TheVariants.{Base, Derived}
 use Rattle.units.specs.declared.Row.{Row}
-use Rattle.units.specs.Modes.{Table}
+use Rattle.units.specs.declared.Rows.{Rows}
 use Rattle.units.specs.Lists.{pack, factor_fault, some, checked, both, with_exponent, inverted}
 use Rattle.lent.specs.Lent.{over, lent_rows_lem}
 use Rattle.keys.specs.Key as keys
@@ -23,7 +23,7 @@ use Rattle.keys.specs.Key.{multiple, whole, wholes, divisor, below, turn, shrink
 use Rattle.keys.specs.Orders.{is_eq}
 use Rattle.tables.specs.Lists.{base_at, base}
 use Rattle.tables.specs.Scale.{raise as raisedBy, raised_to, scale_from_lem}
-use Rattle.tables.specs.Rows.{exp_at, scale_at, places, placed, slotted, slots_from, is_base, count, kind_fault, table_fault, row_exps, row_scale_lem, worked_out, row_facts, admit_from, admit}
+use Rattle.tables.specs.Rows.{exp_at, scale_at, places, placed, slotted, slots_from, is_base, count, kind_fault, table_fault, row_exps, row_scale, worked_out, row_facts, admit_from, admit}
 use Rattle.tables.specs.Order.{key_order, row_order}
 use Rattle.canonical.specs.Canonical.{place, insert, gather, nonzero, canon, same_list, same_all, all_nought, drop_if}
 use Rattle.common.specs.Common.{meet, if_same, with_shared, shared_with_lem, common}
@@ -70,11 +70,11 @@ whole-one = 4
 abbrev one : ℕ
 one = 0x3ff0_0000_0000_0000
 
-unfoldable minutes : Table
+unfoldable minutes : Rows
 minutes = lent_rows_lem (base_row 0 ∷ base_row 1 ∷ derived_row 2 0x404e_0000_0000_0000 (plain second ∷ []) ∷ derived_row 3 0x3f50_624d_d2f1_a9fc [] ∷ derived_row 4 one [] ∷ [])
 
 -- ---- eight units that are the number 1: each with four prefixes whose powers take 19, all to one exponent
-unfoldable ones : Table
+unfoldable ones : Rows
 ones = lent_rows_lem (derived_row 0 one [] ∷ derived_row 1 one [] ∷ derived_row 2 one [] ∷ derived_row 3 one [] ∷ derived_row 4 one [] ∷ derived_row 5 one [] ∷ derived_row 6 one [] ∷ derived_row 7 one [] ∷ [])
 
 abbrev four : ℕ → ℕ → List Factor
@@ -92,18 +92,18 @@ abbrev shown : Counted → ℕ × ℕ
 shown c = (c.refusal, c.count)
 
 -- a value by its bits, from one list to another
-abbrev both_ways : Table → ℕ → List Factor → List Factor → (ℕ × ℕ) × (ℕ × ℕ)
+abbrev both_ways : Rows → ℕ → List Factor → List Factor → (ℕ × ℕ) × (ℕ × ℕ)
 both_ways t v l m = (shown (counted_of (convert_to_counted t (made true (of_bits binary64 v) l) (pack m))), shown (counted_of (convert_merged_counted t (made true (of_bits binary64 v) l) (pack m))))
 
-abbrev takes : Table → ℕ → List Factor → List Factor → ℕ → ℕ → Case
+abbrev takes : Rows → ℕ → List Factor → List Factor → ℕ → ℕ → Case
 takes t v l m old new = (both_ways t v l m, ((0, old), (0, new)))
 
-abbrev refuses : Table → ℕ → List Factor → List Factor → ℕ → Case
+abbrev refuses : Rows → ℕ → List Factor → List Factor → ℕ → Case
 refuses t v l m r = (both_ways t v l m, ((r, 0), (r, 0)))
 
 -- `unfolding computed` opens what the calls are worked out by
 unfoldable computed : Unit {0}
-unfolding minutes ones over lent_rows_lem unless bind each worked bits_of raise power multiplications ieee.mul ieee.div ieee.eq to_bits of_bits pack factor_fault some checked both with_exponent inverted base_at base multiple whole wholes divisor below turn shrink keys.reduce key entry entries other first raisedBy raised_to scale_from_lem exp_at scale_at places placed slotted slots_from is_base count kind_fault table_fault row_exps row_scale_lem worked_out row_facts admit_from admit key_order row_order place insert gather drop_if nonzero canon is_eq same_list same_all all_nought meet if_same with_shared shared_with_lem common judged choose rescaled against unlike convert_by convert_to_counted convert_merged_counted
+unfolding minutes ones over lent_rows_lem unless bind each worked bits_of raise power multiplications ieee.mul ieee.div ieee.eq to_bits of_bits pack factor_fault some checked both with_exponent inverted base_at base multiple whole wholes divisor below turn shrink keys.reduce key entry entries other first raisedBy raised_to scale_from_lem exp_at scale_at places placed slotted slots_from is_base count kind_fault table_fault row_exps row_scale worked_out row_facts admit_from admit key_order row_order place insert gather drop_if nonzero canon is_eq same_list same_all all_nought meet if_same with_shared shared_with_lem common judged choose rescaled against unlike convert_by convert_to_counted convert_merged_counted
 computed = tt
 
 cases : List Case

@@ -96,20 +96,20 @@ meets x y =
 abbrev whole : ℤ → Exponent
 whole z = record { num = z; den = 1 }
 
-times-one : (z : ℤ) → z *ℤ pos 1 ≡ z
+times_one : (z : ℤ) → z *ℤ pos 1 ≡ z
 unfolding one
-times-one z = *ℤ-one z
+times_one z = *ℤ-one z
 
 lowest-whole : (z : ℤ) → lowest z 1 ≡ whole z
 unfolding lowest
-lowest-whole z = ap (λ g. record { num = quot_z z (pos g); den = 1 / g }) (gcd-one (nat_abs z)) ∙ ap whole (sym (times-one (quot_z z (pos 1))) ∙ quot_back z 1 (one-dvd (nat_abs z)))
+lowest-whole z = ap (λ g. record { num = quot_z z (pos g); den = 1 / g }) (gcd-one (nat_abs z)) ∙ ap whole (sym (times_one (quot_z z (pos 1))) ∙ quot_back z 1 (one-dvd (nat_abs z)))
 
 less-whole : (a b : ℤ) → less (whole a) (whole b) ≡ lt_z a b
 unfolding less
-less-whole a b = ap₂ lt_z (times-one a) (times-one b)
+less-whole a b = ap₂ lt_z (times_one a) (times_one b)
 
 add-whole : (a b : ℤ) → add (whole a) (whole b) ≡ whole (a +ℤ b)
-add-whole a b = add_is (whole a) (whole b) ∙ ap (λ z. lowest z 1) (ap₂ ◌+ℤ◌ (times-one a) (times-one b)) ∙ lowest-whole (a +ℤ b)
+add-whole a b = add_is (whole a) (whole b) ∙ ap (λ z. lowest z 1) (ap₂ ◌+ℤ◌ (times_one a) (times_one b)) ∙ lowest-whole (a +ℤ b)
 
 -- what is between zero and a sum has the sign of the other summand
 data Between (a b : ℤ) : Type 0 where

@@ -10,7 +10,7 @@ use Rattle.units.specs.declared.Kind.{Kind}
 use Rattle.units.specs.declared.Kind.TheVariants.{Base, Derived}
 use Rattle.units.specs.declared.Row.{Row}
 use Rattle.tables.specs.declared.Slot.{Slot}
-use Rattle.tables.specs.Rows.{Facts, def_of, slots_from, slots, table_fault, row_exps, row_scale_lem, worked_out, row_facts, admit_on, admit_from}
+use Rattle.tables.specs.Rows.{Facts, def_of, slots_from, slots, table_fault, row_exps, row_scale, worked_out, row_facts, admit_on, admit_from}
 use Rattle.wire.specs.Bytes.{run_bytes, pad_to}
 use Rattle.files.specs.Records.{kind_file, row_file, clean, cleaned, table_file}
 use Rattle.filelaws.proofs.Admitted.{KindKept, Kept}
@@ -28,8 +28,8 @@ module _ (r q : Row) (a : Alike r q) where
   exps_alike Base ss ks = refl
   exps_alike (Derived x) ss ks = rw a.def
 
-  scale_alike : (k : Kind) (ks : List Facts) → row_scale_lem k ks r ≡ row_scale_lem k ks q
-  unfolding row_scale_lem
+  scale_alike : (k : Kind) (ks : List Facts) → row_scale k ks r ≡ row_scale k ks q
+  unfolding row_scale
   scale_alike Base ks = refl
   scale_alike (Derived x) ks = rw a.def
 

@@ -27,7 +27,7 @@ use Rattle.keys.specs.Key.{multiple, wholes, reduce, divisor, below, shrink, key
 use Rattle.tables.specs.Lists.{base}
 use Rattle.tables.specs.Scale.{raised_to, scale_from_lem}
 use Rattle.tables.specs.Scale as scales
-use Rattle.tables.specs.Rows.{Facts, scale_at, places, slotted, slots_from, is_base, kind_fault, count, table_fault, row_exps, row_scale_lem, worked_out, row_facts, admitted, admit_from, slots, rows_of, admit, known, table}
+use Rattle.tables.specs.Rows.{Facts, scale_at, places, slotted, slots_from, is_base, kind_fault, count, table_fault, row_exps, row_scale, worked_out, row_facts, admitted, admit_from, slots, rows_of, admit, known, table}
 use Rattle.groups.specs.Numbers.{groups, number_bytes}
 use Rattle.wire.specs.Bytes.{bytes_of, run_bytes}
 use Rattle.files.specs.Records.{factor_file, kind_file, row_file, table_file}
@@ -64,7 +64,7 @@ fact rank = record { exps = []; key = []; scale = small; rank = rank; base = fal
 
 -- `unfolding computed` opens what a row is worked out by
 unfoldable computed : Unit {0}
-unfolding unless bind each bits_of raise power mul eq of_bits some factor_fault beyond faulty multiple wholes reduce divisor below shrink key base places raised_to scales.raise scale_from_lem scale_at is_base kind_fault count table_fault row_exps row_scale_lem worked_out row_facts
+unfolding unless bind each bits_of raise power mul eq of_bits some factor_fault beyond faulty multiple wholes reduce divisor below shrink key base places raised_to scales.raise scale_from_lem scale_at is_base kind_fault count table_fault row_exps row_scale worked_out row_facts
 computed = tt
 
 first_facts : row_facts [] [] first_row ≡ given (fact 65408)

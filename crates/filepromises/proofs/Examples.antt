@@ -17,7 +17,7 @@ use Rattle.keys.specs.Key.{multiple, wholes, reduce, divisor, below, turn, shrin
 use Rattle.tables.specs.Lists.{base_at, base}
 use Rattle.tables.specs.Scale as scales
 use Rattle.tables.specs.Scale.{raised_to, scale_from_lem}
-use Rattle.tables.specs.Rows.{exp_at, scale_at, places, placed, slotted, slots_from, is_base, kind_fault, count, table_fault, row_exps, row_scale_lem, worked_out, row_facts, admit_from, admit}
+use Rattle.tables.specs.Rows.{exp_at, scale_at, places, placed, slotted, slots_from, is_base, kind_fault, count, table_fault, row_exps, row_scale, worked_out, row_facts, admit_from, admit}
 use Rattle.wire.specs.Bytes.{le, bytes_of, run_bytes, pad_to}
 use Rattle.wire.specs.Records.{prefix_of}
 use Rattle.groups.specs.Taken.{then, run?}
@@ -28,7 +28,7 @@ use Rattle.filepromises.proofs.Keeping.{salvage-all}
 
 -- `unfolding compute` opens what a file is read, admitted and written by
 unfoldable compute : Unit {0}
-unfolding worked unless bind each bits_of raise power mul eq of_bits to_bits some factor_fault over lent_rows_lem multiple wholes reduce divisor below turn shrink key base_at base raised_to scales.raise scale_from_lem exp_at scale_at places placed slotted slots_from is_base kind_fault count table_fault row_exps row_scale_lem worked_out row_facts admit_from admit le bytes_of run_bytes pad_to prefix_of then run? groups number_bytes above groups? up_to? unfolded signed? factor_file factor? kind_file row_file eight? derived? row? table_file table? front write_table read_table kept_from salvage
+unfolding worked unless bind each bits_of raise power mul eq of_bits to_bits some factor_fault over lent_rows_lem multiple wholes reduce divisor below turn shrink key base_at base raised_to scales.raise scale_from_lem exp_at scale_at places placed slotted slots_from is_base kind_fault count table_fault row_exps row_scale worked_out row_facts admit_from admit le bytes_of run_bytes pad_to prefix_of then run? groups number_bytes above groups? up_to? unfolded signed? factor_file factor? kind_file row_file eight? derived? row? table_file table? front write_table read_table kept_from salvage
 compute = tt
 
 -- ---- salvage: places, a file, how many rows are kept, the byte

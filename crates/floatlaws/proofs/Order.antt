@@ -34,8 +34,8 @@ pub round-one : (f : Format) (s : Bool) (c : ℕ) → 0 < c → round f s c c �
 round-one f s c h = round_same f s c c 1 1 h (omega arith) (omega arith) ∙ round-one-one f s
 
 -- ---- the order turned by `neg`
-under-neg : (x y : Float) → Under x y → Under (neg y) (neg x)
-under-neg x y h = rw (plus_neg x, plus_neg y, minus_neg x, minus_neg y, den_neg x, den_neg y) (omega arith)
+under_neg : (x y : Float) → Under x y → Under (neg y) (neg x)
+under_neg x y h = rw (plus_neg x, plus_neg y, minus_neg x, minus_neg y, den_neg x, den_neg y) (omega arith)
 
 pub le-neg : (x y : Float) → T (le x y) → T (le (neg y) (neg x))
 le-neg nan y h = absurd (unfold le in h)
@@ -53,7 +53,7 @@ le-neg (fin s m e) nan h = absurd (unfold le in h)
 le-neg (fin s m e) (inf true) h = absurd (unfold le in h)
 le-neg (fin s m e) (inf false) h = unfold le neg in tt
 le-neg (fin s m e) (fin t n d) h =
-    under→le (neg (fin t n d)) (neg (fin s m e)) (finite_neg (fin t n d) tt) (finite_neg (fin s m e) tt) (under-neg (fin s m e) (fin t n d) (le→under (fin s m e) (fin t n d) tt tt h))
+    under→le (neg (fin t n d)) (neg (fin s m e)) (finite_neg (fin t n d) tt) (finite_neg (fin s m e) tt) (under_neg (fin s m e) (fin t n d) (le→under (fin s m e) (fin t n d) tt tt h))
 
 -- ---- not below zero
 abbrev pub AtLeastZero : Float → Type 0
@@ -71,8 +71,8 @@ pub round_at_least : (f : Format) (a c : ℕ) → 0 < c → AtLeastZero (round f
 round_at_least f a c h = rw (round-zero-one f false) at (round_mono f 0 1 a c (omega arith) h (omega arith))
 
 -- ---- what is not above zero is below what is not below zero
-under-over : (x y : Float) → minus x ≤ plus x → minus y ≤ plus y → Under (neg x) y
-under-over x y h k = rw (plus_neg x, minus_neg x, den_neg x) (omega (arith, mul-le-mul_right (den y) h, mul-le-mul_right (den x) k))
+under_over : (x y : Float) → minus x ≤ plus x → minus y ≤ plus y → Under (neg x) y
+under_over x y h k = rw (plus_neg x, minus_neg x, den_neg x) (omega (arith, mul-le-mul_right (den y) h, mul-le-mul_right (den x) k))
 
 pub neg-le : (x y : Float) → AtLeastZero x → AtLeastZero y → T (le (neg x) y)
 neg-le nan y h k = absurd (unfold le in h)
@@ -85,7 +85,7 @@ neg-le (fin s m e) nan h k = absurd (unfold le in k)
 neg-le (fin s m e) (inf true) h k = absurd (unfold le in k)
 neg-le (fin s m e) (inf false) h k = unfold le neg in tt
 neg-le (fin s m e) (fin t n d) h k =
-    under→le (neg (fin s m e)) (fin t n d) (finite_neg (fin s m e) tt) tt (under-over (fin s m e) (fin t n d) (positive_part (fin s m e) tt h) (positive_part (fin t n d) tt k))
+    under→le (neg (fin s m e)) (fin t n d) (finite_neg (fin s m e) tt) tt (under_over (fin s m e) (fin t n d) (positive_part (fin s m e) tt h) (positive_part (fin t n d) tt k))
 
 zero-neg : (s : Bool) → zero_of s ≡ neg (zero_of (not s))
 unfolding neg

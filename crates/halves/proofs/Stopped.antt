@@ -22,12 +22,12 @@ use Rattle.units.specs.declared.Quantity.{Quantity}
 use Rattle.units.specs.declared.Kind.{Kind}
 use Rattle.units.specs.declared.Kind.TheVariants.{Base, Derived}
 use Rattle.units.specs.declared.Row.{Row}
-use Rattle.units.specs.Modes.{Table}
+use Rattle.units.specs.declared.Rows.{Rows}
 use Rattle.units.specs.Lists.{factor_fault, some, checked, both}
 use Rattle.keys.specs.Key.{multiple, key}
 use Rattle.tables.specs.declared.Slot.{Slot}
 use Rattle.tables.specs.Lists.{base}
-use Rattle.tables.specs.Rows.{Facts, bases, def_of, table_fault, row_exps, row_scale_lem, worked_out, row_facts, Admission, admitted, stopped, admit_on, admit_from, rows_in, admit, known, table, base_rows}
+use Rattle.tables.specs.Rows.{Facts, bases, def_of, table_fault, row_exps, row_scale, worked_out, row_facts, Admission, admitted, stopped, admit_on, admit_from, rows_of, admit, known, table, base_rows}
 use Rattle.tables.specs.Rules.{Rules, rules_in, scale_by}
 use Rattle.canonical.proofs.Total.{order_in_total}
 use Rattle.canonical.specs.Canonical.{canon}
@@ -50,7 +50,7 @@ is : {A : Type 0} {o p : Outcome A} {r : Refusal} → o ≡ p → (o ≡ refused
 is e = (λ h. sym e ∙ h, λ h. e ∙ h)
 
 -- ---- the calls: q is a quantity of the admitted table t
-module _ (t : Table) (ks : List Facts) (k : table t ≡ given ks) (q : Quantity) where
+module _ (t : Rows) (ks : List Facts) (k : table t ≡ given ks) (q : Quantity) where
   abbrev rules : Rules Float
   rules = rules_in t ks
 
@@ -171,13 +171,13 @@ unfolding multiple
 multiple_by (at_denominator e) = bind_refused _ e
 multiple_by (past_denominator p h) = bind_given _ p ∙ multiple_by h
 
-module _ (t : Table) (r : Refusal) (range : OutOfRange r) where
+module _ (t : Rows) (r : Refusal) (range : OutOfRange r) where
   abbrev ss : List Slot
   ss = base_rows t
 
   module _ (ks : List Facts) (row : Row) where
-    scale_works : (k : Kind) → row_scale_lem k ks row ≡ refused r → ⊥
-    unfolding row_scale_lem
+    scale_works : (k : Kind) → row_scale k ks row ≡ refused r → ⊥
+    unfolding row_scale
     scale_works Base e = given_not_refused e
     scale_works (Derived f) e = scale_answers (rules_in t ks) r range (def_of row) ((apply_exactly _ (scale_by (rules_in t ks) (def_of row)) r).0 e)
 
@@ -225,10 +225,10 @@ module _ (t : Table) (r : Refusal) (range : OutOfRange r) where
   rows_by (past_row p h) = rw p (rows_by h)
 
   -- THEOREM: a table of at most 128 rows stops at the first row that does
-  pub table_stops : (table t ≡ refused r) ↔ ((ltb 128 t.len ≡ false) × RowsStop (base_rows t) r [] (rows_in t))
+  pub table_stops : (table t ≡ refused r) ↔ ((ltb 128 t.len ≡ false) × RowsStop (base_rows t) r [] (rows_of t))
   unfolding admit
   table_stops = (λ e. go (ltb 128 t.len) refl e, λ h. rw h.0 (rows_by h.1))
     where
-      go : (b : Bool) → ltb 128 t.len ≡ b → known (pick b (stopped TABLE []) (admit_from ss [] (rows_in t))) ≡ refused r → (ltb 128 t.len ≡ false) × RowsStop ss r [] (rows_in t)
+      go : (b : Bool) → ltb 128 t.len ≡ b → known (pick b (stopped TABLE []) (admit_from ss [] (rows_of t))) ≡ refused r → (ltb 128 t.len ≡ false) × RowsStop ss r [] (rows_of t)
       go true p e = absurd (range_not_table r range (one_refusal e))
-      go false p e = (p, rows_from [] (rows_in t) e)
+      go false p e = (p, rows_from [] (rows_of t) e)

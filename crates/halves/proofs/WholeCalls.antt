@@ -14,7 +14,7 @@ use Rattle.floats.specs.Values.{is_zero}
 use Rattle.units.specs.declared.Factor.{Factor}
 use Rattle.units.specs.declared.Factors.{Factors}
 use Rattle.units.specs.declared.Quantity.{Quantity}
-use Rattle.units.specs.Modes.{Table}
+use Rattle.units.specs.declared.Rows.{Rows}
 use Rattle.units.specs.Lists as units
 use Rattle.units.specs.Lists.{checked, both, joined, with_exponent, inverted, raised}
 use Rattle.tables.specs.declared.Slot.{Slot}
@@ -106,7 +106,7 @@ unfolding raised_to
 power-whole v fs x h = spared_unless _ ZERONEG refl (spared_bind _ (exponent_whole x) λ n _. spared_map _ (raised-whole (over1 n) refl fs h) λ l _. tt)
 
 -- ---- the calls, over a table whose rows are whole
-module _ (t : Table) (w : WholeRows t) where
+module _ (t : Rows) (w : WholeRows t) where
   -- after the table and one list, or two
   module _ {B : Type 0} {Q : B → Type 0} where
     of_one : (a : Factors) (f : List Facts → List Factor → Outcome B) → WholeList a →

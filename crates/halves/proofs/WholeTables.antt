@@ -15,11 +15,11 @@ use Rattle.exponents.proofs.Words.{pick_is}
 use Rattle.units.specs.declared.Kind.{Kind}
 use Rattle.units.specs.declared.Kind.TheVariants.{Base, Derived}
 use Rattle.units.specs.declared.Row.{Row}
-use Rattle.units.specs.Modes.{Table}
+use Rattle.units.specs.declared.Rows.{Rows}
 use Rattle.keys.specs.Key.{multiple, key}
 use Rattle.keys.proofs.KeyLaws.{lcm-one}
 use Rattle.tables.specs.declared.Slot.{Slot}
-use Rattle.tables.specs.Rows.{Facts, nobody, exp_at, places, bases, def_of, self_exp, row_exps, row_scale_lem, worked_out, row_facts, slots, Admission, stopped, admit_on, admit_from, rows_in, admit, known, table, base_rows}
+use Rattle.tables.specs.Rows.{Facts, nobody, exp_at, places, bases, def_of, self_exp, row_exps, row_scale, worked_out, row_facts, slots, Admission, stopped, admit_on, admit_from, rows_of, admit, known, table, base_rows}
 use Rattle.tables.specs.Rules.{rules_in}
 use Rattle.canonical.proofs.Keeping.{all_append}
 use Rattle.halves.specs.Wholes.{WholeExponent, WholeRow, WholeRows}
@@ -54,16 +54,16 @@ unfolding key
 key-whole l h = rw (multiple-whole l h) (gives tt)
 
 -- ---- rows
-module _ (t : Table) (ss : List Slot) where
+module _ (t : Rows) (ss : List Slot) where
   exps_whole : (k : Kind) (js : List Facts) (r : Row) → All WholeFacts js → WholeRow r → Spared (All WholeExponent) (row_exps k ss js r)
   unfolding row_exps
   exps_whole Base js r h w = gives (all_mapped WholeExponent (self_exp (length js)) (λ s. pick_is WholeExponent (eqb s.row (length js)) {a = unit} {b = nought} refl refl) ss)
   exps_whole (Derived f) js r h w = base-whole (bases (length ss) js) (def_of r) (bases-whole (length ss) js h) w
 
-  row_scale : (k : Kind) (js : List Facts) (r : Row) → Spared {A = Float} Any (row_scale_lem k js r)
-  unfolding row_scale_lem
-  row_scale Base js r = gives tt
-  row_scale (Derived f) js r = spared_map _ (scale_spared (rules_in t js) (def_of r)) λ s _. tt
+  row_scale_lem : (k : Kind) (js : List Facts) (r : Row) → Spared {A = Float} Any (row_scale k js r)
+  unfolding row_scale
+  row_scale_lem Base js r = gives tt
+  row_scale_lem (Derived f) js r = spared_map _ (scale_spared (rules_in t js) (def_of r)) λ s _. tt
 
   facts_whole : (js : List Facts) (r : Row) → All WholeFacts js → WholeRow r → Spared WholeFacts (row_facts ss js r)
   unfolding row_facts worked_out
@@ -71,7 +71,7 @@ module _ (t : Table) (ss : List Slot) where
       spared_unless _ TABLE refl (spared_unless _ SHAPE refl
       (spared_bind _ (exps_whole r.kind js r h w) λ e p.
       spared_bind _ (key-whole e p) λ k _.
-      spared_bind _ (row_scale r.kind js r) λ s _. gives p))
+      spared_bind _ (row_scale_lem r.kind js r) λ s _. gives p))
 
   on_whole : {o : Outcome Facts} (js : List Facts) (next : Facts → Admission) → Spared WholeFacts o → ((k : Facts) → WholeFacts k → Spared (All WholeFacts) (known (next k))) → Spared (All WholeFacts) (known (admit_on o js next))
   on_whole js next (gives {a = k} h) g = g k h
@@ -83,10 +83,10 @@ module _ (t : Table) (ss : List Slot) where
   from_whole js (r ∷ rs) h w = on_whole js _ (facts_whole js r h w.0) λ k p. from_whole (js ++ (k ∷ [])) rs (all_append WholeFacts js (k ∷ []) h (p, tt)) w.1
 
 -- ---- the table, and the rules by which it is read
-module _ (t : Table) where
+module _ (t : Rows) where
   pub table-whole : WholeRows t → Spared (All WholeFacts) (table t)
   unfolding admit
-  table-whole w = pick_is (λ a. Spared (All WholeFacts) (known a)) (ltb 128 t.len) {a = stopped TABLE []} (stops refl) (from_whole t (slots (rows_in t)) [] (rows_in t) tt w)
+  table-whole w = pick_is (λ a. Spared (All WholeFacts) (known a)) (ltb 128 t.len) {a = stopped TABLE []} (stops refl) (from_whole t (slots (rows_of t)) [] (rows_of t) tt w)
 
   pub rules_whole : (ks : List Facts) → All WholeFacts ks → All WholeBase (rules_in t ks).bases
   rules_whole ks h = bases-whole (length (base_rows t)) ks h

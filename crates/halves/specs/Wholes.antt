@@ -5,9 +5,9 @@ use Rattle.exponents.specs.declared.Exponent.{Exponent}
 use Rattle.units.specs.declared.Factor.{Factor}
 use Rattle.units.specs.declared.Factors.{Factors}
 use Rattle.units.specs.declared.Row.{Row}
-use Rattle.units.specs.Modes.{Table}
+use Rattle.units.specs.declared.Rows.{Rows}
 use Rattle.units.specs.Lists.{list_of}
-use Rattle.tables.specs.Rows.{def_of, rows_in}
+use Rattle.tables.specs.Rows.{def_of, rows_of}
 
 abbrev pub WholeExponent : Exponent → Type 0
 WholeExponent x = x.den ≡ 1
@@ -24,5 +24,5 @@ abbrev pub WholeRow : Row → Type 0
 WholeRow r = All WholeFactor (def_of r)
 
 -- every row of a table
-abbrev pub WholeRows : Table → Type 0
-WholeRows t = All WholeRow (rows_in t)
+abbrev pub WholeRows : Rows → Type 0
+WholeRows t = All WholeRow (rows_of t)

@@ -54,8 +54,8 @@ abs_pos (pos zero) h = absurd (h refl)
 abs_pos (pos (suc n)) h = zero-lt-suc n
 abs_pos (negsuc n) h = zero-lt-suc n
 
-some-times : (z c : ℤ) → (z ≡ pos 0 → ⊥) → (c ≡ pos 0 → ⊥) → z *ℤ c ≡ pos 0 → ⊥
-some-times z c hz hc e = let p : zero < nat_abs z * nat_abs c = mul-pos (abs_pos z hz) (abs_pos c hc) in omega (arith, sym (abs_times z c) ∙ ap nat_abs e)
+some_times : (z c : ℤ) → (z ≡ pos 0 → ⊥) → (c ≡ pos 0 → ⊥) → z *ℤ c ≡ pos 0 → ⊥
+some_times z c hz hc e = let p : zero < nat_abs z * nat_abs c = mul-pos (abs_pos z hz) (abs_pos c hc) in omega (arith, sym (abs_times z c) ∙ ap nat_abs e)
 
 -- a nonzero fraction has a nonzero numerator
 some_num : (z : ℤ) (m : ℕ) → (z ≡ pos 0 → ⊥) → (lowest z m).num ≡ pos 0 → ⊥
@@ -73,7 +73,7 @@ other-some x r h = go x.num h
 
 module _ (c : ℤ) (m : ℕ) (some_c : c ≡ pos 0 → ⊥) (p : zero < m) where
   other_is : (x r : Exponent) (z : ℤ) → (z ≡ pos 0 → ⊥) → x ≡ lowest (z *ℤ c) m → other x.num x r ≡ lowest (z *ℤ c) m
-  other_is x r z h e = other-some x r (λ n. some_num (z *ℤ c) m (some-times z c h some_c) (ap (λ t. t.num) (sym e) ∙ n)) ∙ e
+  other_is x r z h e = other-some x r (λ n. some_num (z *ℤ c) m (some_times z c h some_c) (ap (λ t. t.num) (sym e) ∙ n)) ∙ e
 
   step : (k : List ℤ) (d : List Exponent) (z : ℤ) (x : Exponent) → x ≡ lowest (z *ℤ c) m → ((lead k ≡ pos 0 → ⊥) → first d ≡ lowest (lead k *ℤ c) m) →
       (lead_of z (lead k) ≡ pos 0 → ⊥) → other x.num x (first d) ≡ lowest (lead_of z (lead k) *ℤ c) m
@@ -117,8 +117,8 @@ module _ (d e : List Exponent) (k : List ℤ) (hd : All Low d) (he : All Low e) 
 
   both_zero : (b : ℕ) → lead k ≡ pos 0 → mul (get_or d b nought) (first e) ≡ mul (get_or e b nought) (first d)
   both_zero b h =
-      ap (λ t. mul t (first e)) (at_zero r b h) ∙ fl.nought-times (first e) (first_Some e he).low
-      ∙ sym (ap (λ t. mul t (first d)) (at_zero s b h) ∙ fl.nought-times (first d) (first_Some d hd).low)
+      ap (λ t. mul t (first e)) (at_zero r b h) ∙ fl.nought_times (first e) (first_Some e he).low
+      ∙ sym (ap (λ t. mul t (first d)) (at_zero s b h) ∙ fl.nought_times (first d) (first_Some d hd).low)
 
   some_first : (b : ℕ) → (lead k ≡ pos 0 → ⊥) → mul (get_or d b nought) (first e) ≡ mul (get_or e b nought) (first d)
   some_first b h =

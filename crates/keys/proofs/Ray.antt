@@ -83,10 +83,10 @@ unfolding turn
 abs_turn true w = abs_neg w
 abs_turn false w = refl
 
-turn-times : (s : Bool) (z w : ℤ) → z *ℤ turn s w ≡ turn s (z *ℤ w)
+turn_times : (s : Bool) (z w : ℤ) → z *ℤ turn s w ≡ turn s (z *ℤ w)
 unfolding turn
-turn-times true z w = *ℤ-neg z w
-turn-times false z w = refl
+turn_times true z w = *ℤ-neg z w
+turn_times false z w = refl
 
 -- ---- the exponents d are the whole numbers k times c / m
 abbrev pub Ray : ℤ → ℕ → List ℤ → List Exponent → Type 0
@@ -107,7 +107,7 @@ whole_back m x p h e =
 -- the divided number, times the divisor with the sign
 shrunk : (s : Bool) (g : ℕ) (w : ℤ) → g ∣ nat_abs w → quot_z (turn s w) (pos g) *ℤ turn s (pos g) ≡ w
 shrunk s g w h =
-    turn-times s (quot_z (turn s w) (pos g)) (pos g) ∙ ap (turn s) (fl.quot_back (turn s w) g (subst (λ t. g ∣ t) (sym (abs_turn s w)) h)) ∙ turn_twice s w
+    turn_times s (quot_z (turn s w) (pos g)) (pos g) ∙ ap (turn s) (fl.quot_back (turn s w) g (subst (λ t. g ∣ t) (sym (abs_turn s w)) h)) ∙ turn_twice s w
 
 abs_zero : (w : ℤ) → nat_abs w ≡ 0 → w ≡ pos 0
 abs_zero (pos n) e = ap pos e

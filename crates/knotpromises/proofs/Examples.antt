@@ -16,7 +16,7 @@ use Rattle.units.specs.declared.Prefix.TheVariants.{Metric}
 use Rattle.units.specs.declared.Kind.TheVariants.{Base, Derived}
 use Rattle.units.specs.declared.Quantity.{Quantity}
 use Rattle.units.specs.declared.Row.{Row}
-use Rattle.units.specs.Modes.{Table}
+use Rattle.units.specs.declared.Rows.{Rows}
 use Rattle.units.specs.Lists.{pack, factor_fault, some, checked, both, with_exponent, joined, inverted}
 use Rattle.lent.specs.Lent.{over, lent_rows_lem}
 use Rattle.keys.specs.Key as keys
@@ -24,7 +24,7 @@ use Rattle.keys.specs.Key.{multiple, whole, wholes, divisor, below, turn, shrink
 use Rattle.keys.specs.Orders.{is_eq}
 use Rattle.tables.specs.Lists.{base_at, base}
 use Rattle.tables.specs.Scale.{raise as raisedBy, raised_to, scale_from_lem}
-use Rattle.tables.specs.Rows.{exp_at, scale_at, places, placed, slotted, slots_from, is_base, count, kind_fault, table_fault, row_exps, row_scale_lem, worked_out, row_facts, admit_from, admit}
+use Rattle.tables.specs.Rows.{exp_at, scale_at, places, placed, slotted, slots_from, is_base, count, kind_fault, table_fault, row_exps, row_scale, worked_out, row_facts, admit_from, admit}
 use Rattle.tables.specs.Order.{key_order, row_order}
 use Rattle.canonical.specs.Canonical.{place, insert, gather, nonzero, canon, same_list, same_all, all_nought, drop_if}
 use Rattle.common.specs.Common.{meet, if_same, with_shared, shared_with_lem, common}
@@ -112,7 +112,7 @@ inch = 2
 abbrev minute : ℕ
 minute = 3
 
-unfoldable metres : Table
+unfoldable metres : Rows
 metres = lent_rows_lem (base_row 0 ∷ base_row 1 ∷ derived_row 2 0x3f9a_0275_2546_0aa6 (plain metre) ∷ derived_row 3 sixty (plain second) ∷ [])
 
 -- 3 inch and 76.2 mm in metre: 0.07619999999999999 and 0.0762, a last place apart
@@ -134,11 +134,11 @@ abbrev two-places : ℕ
 two-places = 0x3c80_0000_0000_0000
 
 -- ---- over tenths of a millimetre: a millimetre is 10, an inch 254, a metre 10,000
-unfoldable tenths : Table
+unfoldable tenths : Rows
 tenths = lent_rows_lem (base_row 0 ∷ derived_row 1 0x4024_0000_0000_0000 (plain 0) ∷ derived_row 2 0x406f_c000_0000_0000 (plain 0) ∷ derived_row 3 0x40c3_8800_0000_0000 (plain 0) ∷ [])
 
 -- a row of factor 0
-unfoldable broken : Table
+unfoldable broken : Rows
 broken = lent_rows_lem (base_row 0 ∷ derived_row 1 nought (plain 0) ∷ [])
 
 -- ---- vectors: 0 and the pairs of a value's bits and its multiplicity, or a refusal's number and none
@@ -157,10 +157,10 @@ told (refused w) = (number w, 0)
 abbrev Case : Type 0
 Case = (ℕ × List (ℕ × ℕ)) × (ℕ × List (ℕ × ℕ))
 
-abbrev gives : Table → List Quantity → List Factor → ℕ → ℕ → List (ℕ × ℕ) → Case
+abbrev gives : Rows → List Quantity → List Factor → ℕ → ℕ → List (ℕ × ℕ) → Case
 gives t ks l d x ps = (shown (knot_vector t ks (ruled l d x)), (0, ps))
 
-abbrev refuses : Table → List Quantity → List Factor → ℕ → ℕ → ℕ → Case
+abbrev refuses : Rows → List Quantity → List Factor → ℕ → ℕ → ℕ → Case
 refuses t ks l d x r = (shown (knot_vector t ks (ruled l d x)), (r, []))
 
 -- the knot that arrived twice
@@ -169,7 +169,7 @@ twice = knot three (plain inch) ∷ knot three_inches_in_mm (milli metre) ∷ []
 
 -- `unfolding computed` opens what the calls are worked out by
 unfoldable computed : Unit {0}
-unfolding metres tenths broken over lent_rows_lem unless bind each worked bits_of raise power ieee.add ieee.sub ieee.mul ieee.div ieee.eq ieee.lt ieee.le to_bits of_bits pack factor_fault some checked both with_exponent joined inverted base_at base multiple whole wholes divisor below turn shrink keys.reduce key entry entries other first raisedBy raised_to scale_from_lem exp_at scale_at places placed slotted slots_from is_base count kind_fault table_fault row_exps row_scale_lem worked_out row_facts admit_from admit key_order row_order place insert gather drop_if nonzero canon is_eq same_list same_all all_nought meet if_same with_shared shared_with_lem common judged choose rescaled against unlike convert_by convert_merged merged_value tolerable argument_fault endless falls crowded runs runs_from uncrowded merged vector knot_vector quotient_at run_of quotient span_quotient
+unfolding metres tenths broken over lent_rows_lem unless bind each worked bits_of raise power ieee.add ieee.sub ieee.mul ieee.div ieee.eq ieee.lt ieee.le to_bits of_bits pack factor_fault some checked both with_exponent joined inverted base_at base multiple whole wholes divisor below turn shrink keys.reduce key entry entries other first raisedBy raised_to scale_from_lem exp_at scale_at places placed slotted slots_from is_base count kind_fault table_fault row_exps row_scale worked_out row_facts admit_from admit key_order row_order place insert gather drop_if nonzero canon is_eq same_list same_all all_nought meet if_same with_shared shared_with_lem common judged choose rescaled against unlike convert_by convert_merged merged_value tolerable argument_fault endless falls crowded runs runs_from uncrowded merged vector knot_vector quotient_at run_of quotient span_quotient
 computed = tt
 
 vectors : List Case

@@ -15,7 +15,7 @@ use Rattle.exponents.proofs.Each.{Along, done, next}
 use Rattle.floats.specs.Power.{one}
 use Rattle.units.specs.declared.Factors.{Factors}
 use Rattle.units.specs.declared.Quantity.{Quantity}
-use Rattle.units.specs.Modes.{Table}
+use Rattle.units.specs.declared.Rows.{Rows}
 use Rattle.quantities.specs.Calls.{merged_value}
 use Rattle.knotruns.specs.Values.{plus_zero, argument_fault, unordered}
 use Rattle.knotruns.specs.Runs.{Run, joins, runs, run_of, value_at, merged_at, ratio, quotient_at}
@@ -42,7 +42,7 @@ use Rattle.knots.specs.declared.Rule.{Rule}
 use Rattle.knotpromises.proofs.Words.{At, span_of, bad_arguments, overfull, Becomes, Convertible, Become, Lowest, Knot, OfKnot, all_of, of-all, become_at, at_place, knot_at, all_knots, lowest-of, behind, all_firsts}
 
 -- the cases of a knot vector, in the order of 02's refusals: count, degree or tolerance; the lowest knot that doesn't convert; then of all values, NaN, an infinity or a fall; a run of over degree plus one knots; the runs
-pub data Case (t : Table) (ks : List Quantity) (u : Rule) : Outcome (List Run) → Type 0 where
+pub data Case (t : Rows) (ks : List Quantity) (u : Rule) : Outcome (List Run) → Type 0 where
   argument : bad_arguments ks u ≡ true → Case t ks u (refused ARGUMENT)
   conversion : (r : Refusal) → bad_arguments ks u ≡ false → Lowest t u.unit ks r → Case t ks u (refused r)
   order : (xs : List Float) → bad_arguments ks u ≡ false → Become t u.unit ks xs → unordered xs ≡ true → Case t ks u (refused ORDER)
@@ -50,13 +50,13 @@ pub data Case (t : Table) (ks : List Quantity) (u : Rule) : Outcome (List Run) �
   answer : (xs : List Float) → bad_arguments ks u ≡ false → Become t u.unit ks xs → unordered xs ≡ false → overfull u xs ≡ false → Case t ks u (given (runs u.tolerance xs))
 
 -- those of a span quotient: the vector's refusals, then ARGUMENT for a span that isn't there; the quotient
-pub data SpanCase (t : Table) (ks : List Quantity) (u : Rule) (i : ℕ) (x : Float) : Outcome Float → Type 0 where
+pub data SpanCase (t : Rows) (ks : List Quantity) (u : Rule) (i : ℕ) (x : Float) : Outcome Float → Type 0 where
   no_vector : (r : Refusal) → knot_vector t ks u ≡ refused r → SpanCase t ks u i x (refused r)
   no_span : (rs : List Run) → knot_vector t ks u ≡ given rs → length ks ≤ suc i → SpanCase t ks u i x (refused ARGUMENT)
   span : (rs : List Run) → knot_vector t ks u ≡ given rs → suc i < length ks → SpanCase t ks u i x (given (quotient_at rs i x))
 
 -- t is a table, ks are knots, u is a rule
-module _ (t : Table) (ks : List Quantity) (u : Rule) where
+module _ (t : Rows) (ks : List Quantity) (u : Rule) where
   -- what the core sees
   abbrev seen : List (Outcome Float)
   seen = conversions t ks u.unit
@@ -333,15 +333,15 @@ module _ (t : Table) (ks : List Quantity) (u : Rule) where
 -- ---- what the answers depend on
 
 -- the knots of two tables convert alike, place by place: to the same value, or refused alike
-abbrev pub Alike : Table → Factors → List Quantity → Table → Factors → List Quantity → Type 0
+abbrev pub Alike : Rows → Factors → List Quantity → Rows → Factors → List Quantity → Type 0
 Alike t m ks t' m' js = Along (λ q p. merged_value t q m ≡ merged_value t' p m') ks js
 
-alike_seen : (t t' : Table) (m m' : Factors) {ks js : List Quantity} → Alike t m ks t' m' js → conversions t ks m ≡ conversions t' js m'
+alike_seen : (t t' : Rows) (m m' : Factors) {ks js : List Quantity} → Alike t m ks t' m' js → conversions t ks m ≡ conversions t' js m'
 alike_seen t t' m m' done = refl
 alike_seen t t' m m' (next e a) = ap₂ (λ o cs. o ∷ cs) e (alike_seen t t' m m' a)
 
 -- two tables, knots and units; the same degree and tolerance
-module _ (t t' : Table) (ks js : List Quantity) (u w : Rule) (d : u.degree ≡ w.degree) (x : u.tolerance ≡ w.tolerance) (a : Alike t u.unit ks t' w.unit js) where
+module _ (t t' : Rows) (ks js : List Quantity) (u w : Rule) (d : u.degree ≡ w.degree) (x : u.tolerance ≡ w.tolerance) (a : Alike t u.unit ks t' w.unit js) where
   -- THEOREM: knots that convert alike have one knot vector, refusals included: it depends on the conversions and on nothing else of table, knots and unit
   pub conversions_only : knot_vector t ks u ≡ knot_vector t' js w
   conversions_only = by_core t ks u ∙ rw (alike_seen t t' u.unit w.unit a, d, x) (sym (by_core t' js w))

@@ -13,7 +13,7 @@ use Rattle.exponents.proofs.Each.{Along, done, next, all_imp}
 use Rattle.exponents.proofs.Holds.{one_answer}
 use Rattle.units.specs.declared.Factors.{Factors}
 use Rattle.units.specs.declared.Quantity.{Quantity}
-use Rattle.units.specs.Modes.{Table}
+use Rattle.units.specs.declared.Rows.{Rows}
 use Rattle.quantities.specs.Calls.{convert_merged, merged_value}
 use Rattle.knotruns.specs.Values.{argument_fault}
 use Rattle.knotruns.specs.Runs.{runs_from, runs, crowded}
@@ -40,7 +40,7 @@ bad_arguments ks u = argument_fault (length ks) u.degree u.tolerance
 abbrev pub overfull : Rule → List Float → Bool
 overfull u xs = crowded (suc u.degree) (runs u.tolerance xs)
 
-module _ (t : Table) (m : Factors) where
+module _ (t : Rows) (m : Factors) where
   -- the knot's complete merged conversion to the unit m answers, with the value x
   pub record Becomes (q : Quantity) (x : Float) : Type 0 where
     pub quantity : Quantity

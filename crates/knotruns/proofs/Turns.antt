@@ -193,8 +193,8 @@ module _ (t : Float) (xs : List Float) (fs : List Float) (ks : List ℕ) where
   abbrev first_of : Run → Float
   first_of r = r.first
 
-  abbrev times-of : Run → ℕ
-  times-of r = r.times
+  abbrev times_of : Run → ℕ
+  times_of r = r.times
 
   pub record Putting (F : List Float) (K : List ℕ) (f : Float) (k j i : ℕ) : Type 0 where
     pub many : k ≤ i
@@ -202,7 +202,7 @@ module _ (t : Float) (xs : List Float) (fs : List Float) (ks : List ℕ) where
     pub number : j + length (runs_from t f k (drop i xs)) ≡ length (runs t xs)
     pub some_left : 0 < length (runs_from t f k (drop i xs))
     pub values : Written first_of (runs t xs) fs j (runs_from t f k (drop i xs)) F
-    pub counts : Written times-of (runs t xs) ks j (runs_from t f k (drop i xs)) K
+    pub counts : Written times_of (runs t xs) ks j (runs_from t f k (drop i xs)) K
     pub values_size : length F ≡ length fs
     pub counts_size : length K ≡ length ks
 
@@ -215,7 +215,7 @@ module _ (t : Float) (xs : List Float) (fs : List Float) (ks : List ℕ) where
         number = omega (arith, ap length e);
         some_left = some t _ 1 _;
         values = rw e (none_yet first_of (runs t xs) fs);
-        counts = rw e (none_yet times-of (runs t xs) ks);
+        counts = rw e (none_yet times_of (runs t xs) ks);
         values_size = refl;
         counts_size = refl;
       }
@@ -245,7 +245,7 @@ module _ (t : Float) (xs : List Float) (fs : List Float) (ks : List ℕ) where
         number = omega (arith, ap length e, w.number);
         some_left = some t (get_or xs i nan) 1 _;
         values = write first_of (runs t xs) fs j (run f k) _ F x (rw e at w.values);
-        counts = write times-of (runs t xs) ks j (run f k) _ K y (rw e at w.counts);
+        counts = write times_of (runs t xs) ks j (run f k) _ K y (rw e at w.counts);
         values_size = length-set F j f ∙ w.values_size;
         counts_size = length-set K j k ∙ w.counts_size;
       })
@@ -255,7 +255,7 @@ module _ (t : Float) (xs : List Float) (fs : List Float) (ks : List ℕ) where
       let e = last t f k xs i h in
       all_written first_of (runs t xs) fs (j + 1) _ (omega (arith, ap length e, w.number)) (write first_of (runs t xs) fs j (run f k) [] F x (rw e at w.values))
 
-  pub put_counts : (F : List Float) (K : List ℕ) (f : Float) (k j i : ℕ) → Putting F K f k j i → length xs ≤ i → j < length K → set K j k ≡ map times-of (runs t xs) ++ drop (length (runs t xs)) ks
+  pub put_counts : (F : List Float) (K : List ℕ) (f : Float) (k j i : ℕ) → Putting F K f k j i → length xs ≤ i → j < length K → set K j k ≡ map times_of (runs t xs) ++ drop (length (runs t xs)) ks
   put_counts F K f k j i w h x =
       let e = last t f k xs i h in
-      all_written times-of (runs t xs) ks (j + 1) _ (omega (arith, ap length e, w.number)) (write times-of (runs t xs) ks j (run f k) [] K x (rw e at w.counts))
+      all_written times_of (runs t xs) ks (j + 1) _ (omega (arith, ap length e, w.number)) (write times_of (runs t xs) ks j (run f k) [] K x (rw e at w.counts))

@@ -9,7 +9,7 @@ use Rattle.exponents.specs.Outcome.{refusal_of}
 use Rattle.exponents.proofs.Numbers.{number-pos}
 use Rattle.units.specs.declared.Factors.{Factors}
 use Rattle.units.specs.declared.Quantity.{Quantity}
-use Rattle.units.specs.Modes.{Table}
+use Rattle.units.specs.declared.Rows.{Rows}
 use Rattle.conversion.specs.Held.{converted_of, refused_by, rated_by}
 use Rattle.conversion.specs.declared.convert.Converted.{Converted}
 use Rattle.conversion.specs.declared.convert.Converted.TheVariants.{Value, Refused}
@@ -30,20 +30,20 @@ use Rattle.knots.specs.Held.{Makes, Inside, absent, Shelved, Filling}
 use Rattle.knots.proofs.Shelving.{makes_alike}
 
 -- ---- the conversion at hand, for any table of which `ok` holds
-module _ (ok : Table → Type 0) (m : Factors) (s : List ℕ) where
+module _ (ok : Rows → Type 0) (m : Factors) (s : List ℕ) where
   -- r is that of the unit at a place, and the shelf f is in order
   pub record Hand (r : Rate) (at : ℕ) (f : Shelf) : Type 0 where
     pub whole : at + 324 ≤ length s
     pub inside : Inside (length s) f
-    pub makes : (t : Table) → ok t → Makes t m s r at
-    pub shelved : (t : Table) → ok t → Shelved t m s f
+    pub makes : (t : Rows) → ok t → Makes t m s r at
+    pub shelved : (t : Rows) → ok t → Shelved t m s f
 
   -- and it serves the list at another place
   pub record Serves (r : Rate) (at : ℕ) (f : Shelf) (new : ℕ) : Type 0 where
     pub hand : Hand r at f
-    pub serves : (t : Table) → ok t → Makes t m s r new
+    pub serves : (t : Rows) → ok t → Makes t m s r new
 
-  pub hand_start : (r : Rate) (at : ℕ) → at + 324 ≤ length s → ((t : Table) → ok t → Makes t m s r at) → Hand r at (record { rates = replicate 8 r; places = replicate 8 at; next = 1 })
+  pub hand_start : (r : Rate) (at : ℕ) → at + 324 ≤ length s → ((t : Rows) → ok t → Makes t m s r at) → Hand r at (record { rates = replicate 8 r; places = replicate 8 at; next = 1 })
   hand_start r at h f =
       record {
         whole = h;
@@ -57,7 +57,7 @@ module _ (ok : Table → Type 0) (m : Factors) (s : List ℕ) where
   serves_alike new h e p q g = rw (p, q, g) (record { hand = h; serves = λ t o. makes_alike _ new e (h.makes t o) })
 
   -- it doesn't: the shelf has turned
-  pub serves_turned : {r r' r'' : Rate} {at at' : ℕ} {f f' f'' : Shelf} (new : ℕ) → Hand r at f → new + 324 ≤ length s → Inside (length s) f'' → ((t : Table) → ok t → Shelved t m s f → Makes t m s r'' new × Shelved t m s f'')
+  pub serves_turned : {r r' r'' : Rate} {at at' : ℕ} {f f' f'' : Shelf} (new : ℕ) → Hand r at f → new + 324 ≤ length s → Inside (length s) f'' → ((t : Rows) → ok t → Shelved t m s f → Makes t m s r'' new × Shelved t m s f'')
       → r' ≡ r'' → at' ≡ new → f' ≡ f'' → Serves r' at' f' new
   serves_turned new h w i g p q k =
       rw (p, q, k)
@@ -67,7 +67,7 @@ module _ (ok : Table → Type 0) (m : Factors) (s : List ℕ) where
       })
 
 -- ---- the values, of n knots
-module _ (t : Table) (m : Factors) (s : List ℕ) (n : ℕ) where
+module _ (t : Rows) (m : Factors) (s : List ℕ) (n : ℕ) where
   abbrev pub knots : List Quantity
   knots = run_at quantity_at 336 n s 0
 

@@ -9,7 +9,7 @@ use lib.Ieee.{Float}
 use Rattle.exponents.specs.Outcome.{Refusal, number, Outcome, given, refused, refusal_of}
 use Rattle.units.specs.declared.Factors.{Factors}
 use Rattle.units.specs.declared.Quantity.{Quantity}
-use Rattle.units.specs.Modes.{Table}
+use Rattle.units.specs.declared.Rows.{Rows}
 use Rattle.quantities.specs.Calls.{merged_value}
 use Rattle.wire.specs.Arguments.{many_in}
 use Rattle.wire.specs.Bytes.{run_at}
@@ -28,7 +28,7 @@ use Rattle.knots.specs.declared.Span.{Span}
 use Rattle.knots.specs.Calls.{knots_in, conversions, knot_vector, span_quotient}
 use Rattle.knots.specs.Held.{Filling, Vectored}
 
-module _ (t : Table) (m : Factors) (s : List ℕ) (n : ℕ) (e : n ≡ many_in 336 512 (length s)) where
+module _ (t : Rows) (m : Factors) (s : List ℕ) (n : ℕ) (e : n ≡ many_in 336 512 (length s)) where
   -- the knots that code goes through are all
   pub all_knots : run_at quantity_at 336 n s 0 ≡ knots_in s
   unfolding knots_in
@@ -69,7 +69,7 @@ few s n d x e h =
     record { some = a.some; most = a.most; inside = omega (arith, a.some, l) }
 
 -- ---- what a call hands over
-module _ (t : Table) (s : List ℕ) (u : Rule) (r : Told) (fs F : List Float) (ks K : List ℕ) where
+module _ (t : Rows) (s : List ℕ) (u : Rule) (r : Told) (fs F : List Float) (ks K : List ℕ) where
   pub vectored : Left (roomy (length fs) (length ks) (vector (conversions t (knots_in s) u.unit) u.degree u.tolerance)) r fs F ks K → Vectored t s u r fs F ks K
   unfolding knot_vector
   vectored l = record { told = l.tells; firsts = l.values; times = l.counts }
@@ -82,7 +82,7 @@ module _ (t : Table) (s : List ℕ) (u : Rule) (r : Told) (fs F : List Float) (k
     pub vectored_all : (r ≡ told_of core) × (F ≡ firsts_into core fs) × (K ≡ times_into core ks) → Vectored t s u r fs F ks K
     vectored_all h = vectored (rw (all_there t u.unit s n e c vs f z) (record { tells = h.0; values = h.1; counts = h.2 }))
 
-module _ (t : Table) (s : List ℕ) (a : Span) (r : Quotient) where
+module _ (t : Rows) (s : List ℕ) (a : Span) (r : Quotient) where
   pub divided : r ≡ quotient_of (quotient (conversions t (knots_in s) a.rule.unit) a.rule.degree a.rule.tolerance a.at a.x) → r ≡ quotient_of (span_quotient t (knots_in s) a)
   unfolding span_quotient
   divided h = h

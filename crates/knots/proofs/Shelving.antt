@@ -9,14 +9,14 @@ use lib.Dec.{eqb}
 use lib.ListN.{length, get_or, set, length-set}
 use lib.Seq.{get_or-set_same, get_or-set_other}
 use Rattle.units.specs.declared.Factors.{Factors}
-use Rattle.units.specs.Modes.{Table}
+use Rattle.units.specs.declared.Rows.{Rows}
 use Rattle.conversion.specs.declared.convert.Rate.{Rate}
 use Rattle.wire.specs.Records.{list_at}
 use Rattle.knots.specs.declared.Shelf.{Shelf}
 use Rattle.knots.specs.Held.{Makes, Inside, absent, Shelved}
 
 -- lists that read alike have one conversion
-pub makes_alike : {t : Table} {m : Factors} {s : List ℕ} {r : Rate} (i j : ℕ) → list_at s i ≡ list_at s j → Makes t m s r i → Makes t m s r j
+pub makes_alike : {t : Rows} {m : Factors} {s : List ℕ} {r : Rate} (i j : ℕ) → list_at s i ≡ list_at s j → Makes t m s r i → Makes t m s r j
 makes_alike i j e f = record { so = λ q h. f.so q (h ∙ sym e) }
 
 -- two arrays changed at one place: what holds of both at each place, the new ones among them
@@ -42,7 +42,7 @@ module _ (f g : Shelf) (r : Rate) (at : ℕ) (rates : g.rates ≡ set f.rates f.
             (both-set (λ p q. q + 324 ≤ n) f.places f.places f.next k at 0 at 0 (omega (arith, i.next, i.places)) (omega (arith, i.next, i.places)) h (i.whole k l));
       }
 
-  pub put_shelved : {n : ℕ} {t : Table} {m : Factors} {s : List ℕ} → Inside n f → Makes t m s r at → Shelved t m s f → Shelved t m s g
+  pub put_shelved : {n : ℕ} {t : Rows} {m : Factors} {s : List ℕ} → Inside n f → Makes t m s r at → Shelved t m s f → Shelved t m s g
   put_shelved {n} {t} {m} {s} i new old = record {
     each = λ k l.
         subst (λ ps. Makes t m s (get_or g.rates k absent) (get_or ps k 0)) (sym places)

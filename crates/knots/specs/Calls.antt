@@ -3,7 +3,7 @@ use Rattle.std.specs.Prelude.{List, map, ℕ, Float, length}
 use Rattle.exponents.specs.Outcome.{Outcome}
 use Rattle.units.specs.declared.Factors.{Factors}
 use Rattle.units.specs.declared.Quantity.{Quantity}
-use Rattle.units.specs.Modes.{Table}
+use Rattle.units.specs.declared.Rows.{Rows}
 use Rattle.quantities.specs.Calls.{merged_value}
 use Rattle.wire.specs.Bytes.{run_at}
 use Rattle.wire.specs.Records.{quantity_at}
@@ -17,7 +17,7 @@ use Rattle.knots.specs.declared.Span.{Span}
 unfoldable pub knots_in : List ℕ → List Quantity
 knots_in s = run_at quantity_at 336 (many_in 336 512 (length s)) s 0
 
-module _ (t : Table) where
+module _ (t : Rows) where
   -- the knots' values in the unit m, or refusals
   abbrev pub conversions : List Quantity → Factors → List (Outcome Float)
   conversions ks m = map (λ q. merged_value t q m) ks

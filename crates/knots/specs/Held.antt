@@ -4,7 +4,7 @@ use Rattle.std.specs.Float.{nan}
 use Rattle.exponents.specs.Outcome.{Outcome, refusal_of}
 use Rattle.units.specs.declared.Factors.{Factors}
 use Rattle.units.specs.declared.Quantity.{Quantity}
-use Rattle.units.specs.Modes.{Table}
+use Rattle.units.specs.declared.Rows.{Rows}
 use Rattle.conversion.specs.Held.{converted_of, rated_by}
 use Rattle.conversion.specs.declared.convert.Rate.{Rate}
 use Rattle.quantities.specs.Calls.{merged_value}
@@ -17,7 +17,7 @@ use Rattle.knots.specs.declared.Shelf.{Shelf}
 use Rattle.knots.specs.Calls.{knots_in, knot_vector}
 
 -- r makes of any value of the unit at a place of s what its conversion to m does
-pub record Makes (t : Table) (m : Factors) (s : List ℕ) (r : Rate) (at : ℕ) : Type 0 where
+pub record Makes (t : Rows) (m : Factors) (s : List ℕ) (r : Rate) (at : ℕ) : Type 0 where
   pub so : (q : Quantity) → q.unit ≡ list_at s at → rated_by r q.value ≡ converted_of (merged_value t q m)
 
 -- each place on a shelf has a list's bytes behind it, of n bytes
@@ -32,7 +32,7 @@ abbrev pub absent : Rate
 absent = record { scales = record { own = nan; target = nan; count = 0; refusal = 0 }; refusal = 0; keeps = false }
 
 -- and each conversion there is that of the unit at its place
-pub record Shelved (t : Table) (m : Factors) (s : List ℕ) (f : Shelf) : Type 0 where
+pub record Shelved (t : Rows) (m : Factors) (s : List ℕ) (f : Shelf) : Type 0 where
   pub each : (k : ℕ) → k < 8 → Makes t m s (get_or f.rates k absent) (get_or f.places k 0)
 
 -- r is 0 or a refusal's number; at 0 the conversions are the values
@@ -41,7 +41,7 @@ pub record Filling (cs : List (Outcome Float)) (r : ℕ) (vs : List Float) : Typ
   pub there : r ≡ 0 → cs ≡ all (take (length cs) vs)
 
 -- what a call on the knots s by the rule u tells, and leaves in the places lent for values and for multiplicities; ROOM comes last
-pub record Vectored (t : Table) (s : List ℕ) (u : Rule) (r : Told) (fs fs' : List Float) (ks ks' : List ℕ) : Type 0 where
+pub record Vectored (t : Rows) (s : List ℕ) (u : Rule) (r : Told) (fs fs' : List Float) (ks ks' : List ℕ) : Type 0 where
   pub told : r ≡ told_of (roomy (length fs) (length ks) (knot_vector t (knots_in s) u))
   pub firsts : fs' ≡ firsts_into (roomy (length fs) (length ks) (knot_vector t (knots_in s) u)) fs
   pub times : ks' ≡ times_into (roomy (length fs) (length ks) (knot_vector t (knots_in s) u)) ks

@@ -4,10 +4,6 @@ pub mod Drop
 pub mod Lent
 pub mod Rowed
 pub mod Copiers
-pub mod Modes
 pub mod Thin1
 pub mod Thin2
 pub mod ThinLPL
-pub mod ThinPLP
-pub mod ThinPLPP
-pub mod ThinPLPL

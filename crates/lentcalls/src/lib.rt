@@ -2,7 +2,6 @@
 // value in the crates below.
 ghost use Rattle.std.specs.Prelude.{◌≡◌};
 ghost use Rattle.units.specs.Lists.{made_of};
-ghost use Rattle.units.specs.Modes.{in_mode, plain};
 ghost use Rattle.units.specs.Prefixes.{prefix_factor_of};
 ghost use Rattle.units.specs.Prefixes as prefixes;
 ghost use Rattle.lent.specs.Lent.{lent_rows_lem, lent_candidates};
@@ -32,8 +31,6 @@ use units::prefixes::PrefixFactor;
 use units::{Candidate, Factors, Prefix, Quantity, Row};
 use values::answers::Answer;
 
-pub mod modes; // the calls on a table, in a mode
-
 pub fn prefix_factor(p: Prefix) -> PrefixFactor
     ensures { result ≡ prefix_factor_of (prefixes.prefix_factor p) }
 {
@@ -43,49 +40,49 @@ pub fn prefix_factor(p: Prefix) -> PrefixFactor
 // ---- lists
 
 pub fn product(rows: &[Row], a: Factors, b: Factors) -> Made
-    ensures { result ≡ made_of (lists.product (in_mode plain (lent_rows_lem rows.now)) a b) }
+    ensures { result ≡ made_of (lists.product (lent_rows_lem rows.now) a b) }
 {
     lists::joins::product(lent::rows_of(rows), a, b)
 }
 
 pub fn quotient(rows: &[Row], a: Factors, b: Factors) -> Made
-    ensures { result ≡ made_of (lists.quotient (in_mode plain (lent_rows_lem rows.now)) a b) }
+    ensures { result ≡ made_of (lists.quotient (lent_rows_lem rows.now) a b) }
 {
     lists::joins::quotient(lent::rows_of(rows), a, b)
 }
 
 pub fn list_power(rows: &[Row], a: Factors, e: Exponent) -> Made
-    ensures { result ≡ made_of (lists.list_power (in_mode plain (lent_rows_lem rows.now)) a e) }
+    ensures { result ≡ made_of (lists.list_power (lent_rows_lem rows.now) a e) }
 {
     lists::joins::list_power(lent::rows_of(rows), a, e)
 }
 
 pub fn canonical(rows: &[Row], l: Factors) -> Made
-    ensures { result ≡ made_of (lists.canonical (in_mode plain (lent_rows_lem rows.now)) l) }
+    ensures { result ≡ made_of (lists.canonical (lent_rows_lem rows.now) l) }
 {
     lists::forms::canonical(lent::rows_of(rows), l)
 }
 
 pub fn same_list(rows: &[Row], a: Factors, b: Factors) -> Verdict
-    ensures { result ≡ verdict_of (lists.same_lists (in_mode plain (lent_rows_lem rows.now)) a b) }
+    ensures { result ≡ verdict_of (lists.same_lists (lent_rows_lem rows.now) a b) }
 {
     lists::forms::same_list(lent::rows_of(rows), a, b)
 }
 
 pub fn reduce_list(rows: &[Row], l: Factors) -> Reduced
-    ensures { result ≡ reduced_of (lists.reduction (in_mode plain (lent_rows_lem rows.now)) l) }
+    ensures { result ≡ reduced_of (lists.reduction (lent_rows_lem rows.now) l) }
 {
     lists::reductions::reduce_list(lent::rows_of(rows), l)
 }
 
 pub fn smaller_unit(rows: &[Row], a: Factors, b: Factors) -> Made
-    ensures { result ≡ made_of (lists.smaller_unit (in_mode plain (lent_rows_lem rows.now)) a b) }
+    ensures { result ≡ made_of (lists.smaller_unit (lent_rows_lem rows.now) a b) }
 {
     lists::reductions::smaller_unit(lent::rows_of(rows), a, b)
 }
 
 pub fn is_multiple_of(rows: &[Row], a: Factors, b: Factors) -> Multiple
-    ensures { result ≡ multiple_is (lists.multiple (in_mode plain (lent_rows_lem rows.now)) a b) }
+    ensures { result ≡ multiple_is (lists.multiple (lent_rows_lem rows.now) a b) }
 {
     lists::reductions::is_multiple_of(lent::rows_of(rows), a, b)
 }
@@ -93,55 +90,55 @@ pub fn is_multiple_of(rows: &[Row], a: Factors, b: Factors) -> Multiple
 // ---- quantities
 
 pub fn reduce(rows: &[Row], q: Quantity) -> Answer
-    ensures { result ≡ answered_of (values.reduce (in_mode plain (lent_rows_lem rows.now)) q) }
+    ensures { result ≡ answered_of (values.reduce (lent_rows_lem rows.now) q) }
 {
     values::single::reduce(lent::rows_of(rows), q)
 }
 
 pub fn negate(rows: &[Row], q: Quantity) -> Answer
-    ensures { result ≡ answered_of (values.negate (in_mode plain (lent_rows_lem rows.now)) q) }
+    ensures { result ≡ answered_of (values.negate (lent_rows_lem rows.now) q) }
 {
     values::single::negate(lent::rows_of(rows), q)
 }
 
 pub fn abs(rows: &[Row], q: Quantity) -> Answer
-    ensures { result ≡ answered_of (values.magnitude (in_mode plain (lent_rows_lem rows.now)) q) }
+    ensures { result ≡ answered_of (values.magnitude (lent_rows_lem rows.now) q) }
 {
     values::single::abs(lent::rows_of(rows), q)
 }
 
 pub fn no_simplify(rows: &[Row], q: Quantity) -> Answer
-    ensures { result ≡ answered_of (values.no_simplify (in_mode plain (lent_rows_lem rows.now)) q) }
+    ensures { result ≡ answered_of (values.no_simplify (lent_rows_lem rows.now) q) }
 {
     values::single::no_simplify(lent::rows_of(rows), q)
 }
 
 pub fn multiply(rows: &[Row], q: Quantity, p: Quantity) -> Answer
-    ensures { result ≡ answered_of (values.multiply (in_mode plain (lent_rows_lem rows.now)) q p) }
+    ensures { result ≡ answered_of (values.multiply (lent_rows_lem rows.now) q p) }
 {
     values::pairs::multiply(lent::rows_of(rows), q, p)
 }
 
 pub fn checked_div(rows: &[Row], q: Quantity, p: Quantity) -> Answer
-    ensures { result ≡ answered_of (values.checked_div (in_mode plain (lent_rows_lem rows.now)) q p) }
+    ensures { result ≡ answered_of (values.checked_div (lent_rows_lem rows.now) q p) }
 {
     values::pairs::checked_div(lent::rows_of(rows), q, p)
 }
 
 pub fn checked_power(rows: &[Row], q: Quantity, p: Quantity) -> Answer
-    ensures { result ≡ answered_of (powers.checked_power (in_mode plain (lent_rows_lem rows.now)) q p) }
+    ensures { result ≡ answered_of (powers.checked_power (lent_rows_lem rows.now) q p) }
 {
     powers::checked_power(lent::rows_of(rows), q, p)
 }
 
 pub fn convert_to(rows: &[Row], q: Quantity, target: Factors) -> Answer
-    ensures { result ≡ answered_of (quantities.convert_to (in_mode plain (lent_rows_lem rows.now)) q target) }
+    ensures { result ≡ answered_of (quantities.convert_to (lent_rows_lem rows.now) q target) }
 {
     quantities::conversions::convert_to(lent::rows_of(rows), q, target)
 }
 
 pub fn convert_merged(rows: &[Row], q: Quantity, target: Factors) -> Answer
-    ensures { result ≡ answered_of (quantities.convert_merged (in_mode plain (lent_rows_lem rows.now)) q target) }
+    ensures { result ≡ answered_of (quantities.convert_merged (lent_rows_lem rows.now) q target) }
 {
     quantities::conversions::convert_merged(lent::rows_of(rows), q, target)
 }
@@ -149,13 +146,13 @@ pub fn convert_merged(rows: &[Row], q: Quantity, target: Factors) -> Answer
 // ---- with the multiplications that they take (02, order 5)
 
 pub fn convert_to_counted(rows: &[Row], q: Quantity, target: Factors) -> Counted
-    ensures { result ≡ counted_of (counted.convert_to_counted (in_mode plain (lent_rows_lem rows.now)) q target) }
+    ensures { result ≡ counted_of (counted.convert_to_counted (lent_rows_lem rows.now) q target) }
 {
     counted::convert_to_counted(lent::rows_of(rows), q, target)
 }
 
 pub fn convert_merged_counted(rows: &[Row], q: Quantity, target: Factors) -> Counted
-    ensures { result ≡ counted_of (counted.convert_merged_counted (in_mode plain (lent_rows_lem rows.now)) q target) }
+    ensures { result ≡ counted_of (counted.convert_merged_counted (lent_rows_lem rows.now) q target) }
 {
     counted::convert_merged_counted(lent::rows_of(rows), q, target)
 }
@@ -163,37 +160,37 @@ pub fn convert_merged_counted(rows: &[Row], q: Quantity, target: Factors) -> Cou
 // ---- sums, products and powers
 
 pub fn add(rows: &[Row], q: Quantity, p: Quantity) -> Answer
-    ensures { result ≡ answered_of (sums.add (in_mode plain (lent_rows_lem rows.now)) q p) }
+    ensures { result ≡ answered_of (sums.add (lent_rows_lem rows.now) q p) }
 {
     sums::add(lent::rows_of(rows), q, p)
 }
 
 pub fn subtract(rows: &[Row], q: Quantity, p: Quantity) -> Answer
-    ensures { result ≡ answered_of (sums.subtract (in_mode plain (lent_rows_lem rows.now)) q p) }
+    ensures { result ≡ answered_of (sums.subtract (lent_rows_lem rows.now) q p) }
 {
     sums::subtract(lent::rows_of(rows), q, p)
 }
 
 pub fn equal(rows: &[Row], q: Quantity, p: Quantity) -> Verdict
-    ensures { result ≡ verdict_of (quantities.equal (in_mode plain (lent_rows_lem rows.now)) q p) }
+    ensures { result ≡ verdict_of (quantities.equal (lent_rows_lem rows.now) q p) }
 {
     quantities::comparisons::equal(lent::rows_of(rows), q, p)
 }
 
 pub fn compare(rows: &[Row], q: Quantity, p: Quantity) -> Compared
-    ensures { result ≡ compared_of (quantities.compare (in_mode plain (lent_rows_lem rows.now)) q p) }
+    ensures { result ≡ compared_of (quantities.compare (lent_rows_lem rows.now) q p) }
 {
     quantities::comparisons::compare(lent::rows_of(rows), q, p)
 }
 
 pub fn full_simplify(rows: &[Row], q: Quantity) -> Answer
-    ensures { result ≡ answered_of (simplification.full_simplify (in_mode plain (lent_rows_lem rows.now)) q) }
+    ensures { result ≡ answered_of (simplification.full_simplify (lent_rows_lem rows.now) q) }
 {
     simplification::full_simplify(lent::rows_of(rows), q)
 }
 
 pub fn full_simplify_with(rows: &[Row], q: Quantity, candidates: &[Candidate]) -> Answer
-    ensures { result ≡ answered_of (registry.full_simplify_with (in_mode plain (lent_rows_lem rows.now)) q (lent_candidates candidates.now)) }
+    ensures { result ≡ answered_of (registry.full_simplify_with (lent_rows_lem rows.now) q (lent_candidates candidates.now)) }
 {
     registry::full_simplify_with(lent::rows_of(rows), q, lent::candidates_of(candidates))
 }

@@ -1,6 +1,5 @@
 // The calls of the table file over lent rows: a table written from them, read into them, salvaged into them.
 ghost use Rattle.std.specs.Prelude.{◌≡◌, ◌++◌, length, drop};
-ghost use Rattle.units.specs.Modes.{in_mode, plain};
 ghost use Rattle.lent.specs.Lent.{lent_rows_lem};
 ghost use Rattle.replies.specs.Held.{Replied};
 ghost use Rattle.tablefiles.specs.Calls.{write_table, read_table, told_of, salvage, kept_of};
@@ -10,18 +9,16 @@ use replies::Reply;
 use tablefiles::{Kept, Told};
 use units::Row;
 
-pub mod modes; // the same in a mode
-
 // A refused write writes no byte.
 pub fn write_table(rows: &[Row], out: &mut [u8]) -> Reply
-    ensures { Replied out.old (write_table (in_mode plain (lent_rows_lem rows.now))) result out.new }
+    ensures { Replied out.old (write_table (lent_rows_lem rows.now)) result out.new }
 {
     tablefiles::write_table(lent::rows_of(rows), out)
 }
 
 // A refused read writes no row; rows past the count stay.
 pub fn read_table(file: &[u8], to: &mut [Row]) -> Told
-    ensures { (result ≡ told_of (read_table plain (length to.old) file.now)) × (to.new ≡ rows_left to.old (read_table plain (length to.old) file.now)) }
+    ensures { (result ≡ told_of (read_table (length to.old) file.now)) × (to.new ≡ rows_left to.old (read_table (length to.old) file.now)) }
 {
     let d = tablefiles::read_table(file, to.len());
     let rows = d.rows;
@@ -32,7 +29,7 @@ pub fn read_table(file: &[u8], to: &mut [Row]) -> Told
 
 // Salvage writes only the rows it keeps.
 pub fn salvage_table(file: &[u8], to: &mut [Row]) -> Kept
-    ensures { (result ≡ kept_of (salvage plain (length to.old) file.now)) × (to.new ≡ (salvage plain (length to.old) file.now).0 ++ drop (length (salvage plain (length to.old) file.now).0) to.old) }
+    ensures { (result ≡ kept_of (salvage (length to.old) file.now)) × (to.new ≡ (salvage (length to.old) file.now).0 ++ drop (length (salvage (length to.old) file.now).0) to.old) }
 {
     let d = tablefiles::salvage_table(file, to.len());
     let rows = d.rows;

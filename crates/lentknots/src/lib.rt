@@ -1,6 +1,5 @@
 // The calls on knots over lent rows.
 ghost use Rattle.std.specs.Prelude.{◌≡◌};
-ghost use Rattle.units.specs.Modes.{in_mode, plain};
 ghost use Rattle.lent.specs.Lent.{lent_rows_lem};
 ghost use Rattle.knotruns.specs.Held.{quotient_of};
 ghost use Rattle.knots.specs.Calls.{knots_in, span_quotient};
@@ -10,8 +9,6 @@ use knotruns::{Quotient, Told};
 use knots::{Rule, Span};
 use units::Row;
 
-pub mod modes; // the same in a mode
-
 // A refusal leaves the lent places as they are.
 pub fn knot_vector(
     rows: &[Row],
@@ -20,13 +17,13 @@ pub fn knot_vector(
     firsts: &mut [f64],
     times: &mut [u32],
 ) -> Told
-    ensures { Vectored (in_mode plain (lent_rows_lem rows.now)) knots.now rule result firsts.old firsts.new times.old times.new }
+    ensures { Vectored (lent_rows_lem rows.now) knots.now rule result firsts.old firsts.new times.old times.new }
 {
     knots::knot_vector(lent::rows_of(rows), knots, rule, firsts, times)
 }
 
 pub fn span_quotient(rows: &[Row], knots: &[u8], span: Span) -> Quotient
-    ensures { result ≡ quotient_of (span_quotient (in_mode plain (lent_rows_lem rows.now)) (knots_in knots.now) span) }
+    ensures { result ≡ quotient_of (span_quotient (lent_rows_lem rows.now) (knots_in knots.now) span) }
 {
     knots::span_quotient(lent::rows_of(rows), knots, span)
 }

@@ -3,6 +3,4 @@ pub mod Put
 pub mod Rowed
 pub mod Reply
 pub mod Into0
-pub mod IntoP
 pub mod Through
-pub mod ThinPLM

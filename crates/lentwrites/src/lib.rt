@@ -1,5 +1,5 @@
 // Rows written into a slice that the caller lends. Calls that read into lent rows are proved by this crate's `Into0`, calls
-// that take lent rows and lent room by its `Through`; with a value in front, by `IntoP` and `ThinPLM`.
+// that take lent rows and lent room by its `Through`.
 ghost use Rattle.std.specs.Prelude.{◌≡◌, length};
 ghost use Rattle.lentwrites.specs.Held.{fits, laid};
 

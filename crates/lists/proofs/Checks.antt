@@ -10,8 +10,7 @@ use Rattle.exponents.proofs.Following.{bind_apply}
 use Rattle.exponents.proofs.Numbers.{number-pos, Refuses, struct_refuses}
 use Rattle.units.specs.declared.Factor.{Factor}
 use Rattle.units.specs.declared.Factors.{Factors}
-use Rattle.units.specs.declared.Mode.{Mode}
-use Rattle.units.specs.Modes.{Table}
+use Rattle.units.specs.declared.Rows.{Rows}
 use Rattle.units.specs.Lists.{pack, some, checked, both}
 use Rattle.tables.specs.declared.Slot.{Slot}
 use Rattle.tables.specs.declared.Slots.{Slots}
@@ -47,37 +46,37 @@ Pair = List Factor × List Factor
 abbrev pub lay : List Facts → Pair → Opening
 lay ks p = record { rows = ks; first = p.0; second = p.1 }
 
-module _ (m : Mode) (ks : List Facts) where
-  pub lists_refuse : (o : Outcome Pair) (x : Resolved) → x ≡ resolved_of m ks o → (x.refusal ≡ 0 → ⊥) → Refuses o x.refusal
-  lists_refuse = struct_refuses (resolved_of m ks) (λ (y : Resolved). y.refusal) (λ p. refl) (λ r. refl)
+module _ (ks : List Facts) where
+  pub lists_refuse : (o : Outcome Pair) (x : Resolved) → x ≡ resolved_of ks o → (x.refusal ≡ 0 → ⊥) → Refuses o x.refusal
+  lists_refuse = struct_refuses (resolved_of ks) (λ (y : Resolved). y.refusal) (λ p. refl) (λ r. refl)
 
-  laid : (ss : List Slot) (o : Outcome Pair) (x : Resolved) (s : Slots) → x ≡ resolved_of m ks o → x.refusal ≡ 0 → s ≡ pack_slots ss
-      → record { a = x.a; b = x.b; slots = s; refusal = 0 } ≡ opened_of m ss (apply (lay ks) o)
+  laid : (ss : List Slot) (o : Outcome Pair) (x : Resolved) (s : Slots) → x ≡ resolved_of ks o → x.refusal ≡ 0 → s ≡ pack_slots ss
+      → record { a = x.a; b = x.b; slots = s; refusal = 0 } ≡ opened_of ss (apply (lay ks) o)
   laid ss (given p) x s e h q = λ i. record { a = (e i).a; b = (e i).b; slots = q i; refusal = 0 }
   laid ss (refused r) x s e h q = absurd (omega (arith, number-pos r, ap (λ (y : Resolved). y.refusal) e))
 
 -- ---- how the opening ends
-module _ (t : Table) (a b : Factors) where
-  pub table_stops : (ss : List Slot) (n : ℕ) → Refuses (table t) n → unopened n ≡ opened_of t.mode ss (opening t a b)
+module _ (t : Rows) (a b : Factors) where
+  pub table_stops : (ss : List Slot) (n : ℕ) → Refuses (table t) n → unopened n ≡ opened_of ss (opening t a b)
   unfolding opening
-  table_stops ss n r = ap unopened (sym r.numbered) ∙ sym (ap (opened_of t.mode ss) (bind_refused _ r.is))
+  table_stops ss n r = ap unopened (sym r.numbered) ∙ sym (ap (opened_of ss) (bind_refused _ r.is))
 
   module _ (ks : List Facts) (k : table t ≡ given ks) where
     pub lists-next : apply (lay ks) (both (length ks) a b) ≡ opening t a b
     unfolding opening
     lists-next = sym (bind_given _ k)
 
-    pub lists_stop : (ss : List Slot) (n : ℕ) → Refuses (both (length ks) a b) n → unopened n ≡ opened_of t.mode ss (opening t a b)
-    lists_stop ss n r = ap unopened (sym r.numbered) ∙ ap (λ o. opened_of t.mode ss (apply (lay ks) o)) (sym r.is) ∙ ap (opened_of t.mode ss) lists-next
+    pub lists_stop : (ss : List Slot) (n : ℕ) → Refuses (both (length ks) a b) n → unopened n ≡ opened_of ss (opening t a b)
+    lists_stop ss n r = ap unopened (sym r.numbered) ∙ ap (λ o. opened_of ss (apply (lay ks) o)) (sym r.is) ∙ ap (opened_of ss) lists-next
 
-    pub opens : (ss : List Slot) (x : Resolved) (s : Slots) → x ≡ resolved_of t.mode ks (both (length ks) a b) → x.refusal ≡ 0 → s ≡ pack_slots ss
-        → record { a = x.a; b = x.b; slots = s; refusal = 0 } ≡ opened_of t.mode ss (opening t a b)
-    opens ss x s e h q = laid t.mode ks ss (both (length ks) a b) x s e h q ∙ ap (opened_of t.mode ss) lists-next
+    pub opens : (ss : List Slot) (x : Resolved) (s : Slots) → x ≡ resolved_of ks (both (length ks) a b) → x.refusal ≡ 0 → s ≡ pack_slots ss
+        → record { a = x.a; b = x.b; slots = s; refusal = 0 } ≡ opened_of ss (opening t a b)
+    opens ss x s e h q = laid ks ss (both (length ks) a b) x s e h q ∙ ap (opened_of ss) lists-next
 
 -- ---- how a call goes on
 
 -- a call on two lists: W is its own work
-module _ {A : Type 0} (t : Table) (a b : Factors) (W : List Facts → List Factor → List Factor → Outcome A) where
+module _ {A : Type 0} (t : Rows) (a b : Factors) (W : List Facts → List Factor → List Factor → Outcome A) where
   abbrev pub Call : Outcome A
   Call = bind (table t) (λ ks. bind (both (length ks) a b) (λ p. W ks p.0 p.1))
 
@@ -121,7 +120,7 @@ both_none n a = go (checked n a)
     go (refused r) = refl
 
 -- a call on one list
-module _ {A : Type 0} (t : Table) (a : Factors) (W : List Facts → List Factor → Outcome A) where
+module _ {A : Type 0} (t : Rows) (a : Factors) (W : List Facts → List Factor → Outcome A) where
   abbrev pub Call1 : Outcome A
   Call1 = bind (table t) (λ ks. bind (checked (length ks) a) (λ fs. W ks fs))
 

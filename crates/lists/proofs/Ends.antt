@@ -12,12 +12,12 @@ use Rattle.exponents.proofs.Holds.{bind_refused}
 use Rattle.exponents.proofs.Numbers.{Refuses}
 use Rattle.units.specs.declared.Factor.{Factor}
 use Rattle.units.specs.declared.Factors.{Factors}
-use Rattle.units.specs.Modes.{Table}
+use Rattle.units.specs.declared.Rows.{Rows}
 use Rattle.units.specs.Lists.{pack, refused_by, made_of}
 use Rattle.tables.specs.declared.Slot.{Slot}
 use Rattle.tables.specs.declared.Slots.{Slots}
 use Rattle.exponents.specs.Words.{pick}
-use Rattle.tables.specs.Rows.{Admission, admit, rows_in}
+use Rattle.tables.specs.Rows.{Admission, admit, rows_of}
 use Rattle.tables.specs.Held.{pack_slots, Pages}
 use Rattle.tables.proofs.Slotting.{slots_few}
 use Rattle.tables.proofs.Telling.{lent_view}
@@ -69,11 +69,11 @@ module _ (o : Outcome Bool) (fs gs : List Factor) where
 
 -- ---- what the arrays of an admission tell
 
-pub tells_of : (t : Table) (nums : List ℤ) (dens : List ℕ) (scales : List Float) (ranks : List ℕ) (based : List Bool) → Pages (admit t) nums dens scales ranks based → Tells t nums dens
+pub tells_of : (t : Rows) (nums : List ℤ) (dens : List ℕ) (scales : List Float) (ranks : List ℕ) (based : List Bool) → Pages (admit t) nums dens scales ranks based → Tells t nums dens
 tells_of t nums dens scales ranks based p ks e l = record {
-  lent = lent_view t.mode ks l nums dens scales ranks based (subst (λ (a : Admission). Pages a nums dens scales ranks based) (admits t ks e) p);
+  lent = lent_view ks l nums dens scales ranks based (subst (λ (a : Admission). Pages a nums dens scales ranks based) (admits t ks e) p);
   short = view_short t ks e l;
-  few = slots_few (rows_in t);
+  few = slots_few (rows_of t);
 }
 
 -- ---- the base rows

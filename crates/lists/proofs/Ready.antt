@@ -10,8 +10,7 @@ use Rattle.exponents.specs.Outcome.{Outcome, given, refused, apply, bind, refusa
 use Rattle.exponents.proofs.Numbers.{number-pos, Refuses, struct_refuses}
 use Rattle.units.specs.declared.Factor.{Factor}
 use Rattle.units.specs.declared.Factors.{Factors}
-use Rattle.units.specs.declared.Mode.{Mode}
-use Rattle.units.specs.Modes.{Table}
+use Rattle.units.specs.declared.Rows.{Rows}
 use Rattle.units.specs.Lists.{list_of, checked, both}
 use Rattle.units.proofs.Checked.{short, no_fault, first_passed, second_passed, both_pass}
 use Rattle.tables.specs.declared.Slot.{Slot}
@@ -26,46 +25,46 @@ use Rattle.lists.proofs.Checks.{Pair, lay, lists-next, Call, call_refuses, call_
 use Rattle.lists.proofs.Ends.{slots_len}
 
 -- the lists a and b of the table t, opened as x: the rows are ks, the lists are fs and gs
-pub record Ready (t : Table) (a b : Factors) (x : Opened) : Type 0 where
+pub record Ready (t : Rows) (a b : Factors) (x : Opened) : Type 0 where
   pub ks : List Facts
   pub fs : List Factor
   pub gs : List Factor
   pub known : table t ≡ given ks
   pub opened : opening t a b ≡ given (lay ks (fs, gs))
   pub slots : x.slots ≡ pack_slots (base_rows t)
-  pub first : Resolved (view_of t.mode ks (fs ++ gs)) x.a fs
-  pub second : Resolved (view_of t.mode ks (fs ++ gs)) x.b gs
-  pub rules : rules_by (view_of t.mode ks (fs ++ gs)) x.slots.len ≡ rules_in t ks
+  pub first : Resolved (view_of ks (fs ++ gs)) x.a fs
+  pub second : Resolved (view_of ks (fs ++ gs)) x.b gs
+  pub rules : rules_by (view_of ks (fs ++ gs)) x.slots.len ≡ rules_in t ks
 
 -- ---- an opening that isn't refused: the table is admitted, and both lists pass
 
-record Passed (t : Table) (a b : Factors) : Type 0 where
+record Passed (t : Rows) (a b : Factors) : Type 0 where
   ks : List Facts
   known : table t ≡ given ks
   lists : refusal_of (both (length ks) a b) ≡ 0
 
-both_passed : (m : Mode) (ss : List Slot) (ks : List Facts) (o : Outcome Pair) (x : Opened) → x ≡ opened_of m ss (apply (lay ks) o) → x.refusal ≡ 0 → refusal_of o ≡ 0
-both_passed m ss ks (given p) x e h = refl
-both_passed m ss ks (refused r) x e h = absurd (omega (arith, number-pos r, ap (λ (y : Opened). y.refusal) e))
+both_passed : (ss : List Slot) (ks : List Facts) (o : Outcome Pair) (x : Opened) → x ≡ opened_of ss (apply (lay ks) o) → x.refusal ≡ 0 → refusal_of o ≡ 0
+both_passed ss ks (given p) x e h = refl
+both_passed ss ks (refused r) x e h = absurd (omega (arith, number-pos r, ap (λ (y : Opened). y.refusal) e))
 
-passed : (t : Table) (a b : Factors) (x : Opened) → x ≡ opened_of t.mode (base_rows t) (opening t a b) → x.refusal ≡ 0 → Passed t a b
+passed : (t : Rows) (a b : Factors) (x : Opened) → x ≡ opened_of (base_rows t) (opening t a b) → x.refusal ≡ 0 → Passed t a b
 unfolding opening bind
 passed t a b x e h = go (table t) refl e
   where
-    go : (k : Outcome (List Facts)) → table t ≡ k → x ≡ opened_of t.mode (base_rows t) (bind k (λ ks. apply (lay ks) (both (length ks) a b))) → Passed t a b
-    go (given ks) k w = record { ks = ks; known = k; lists = both_passed t.mode (base_rows t) ks (both (length ks) a b) x w h }
+    go : (k : Outcome (List Facts)) → table t ≡ k → x ≡ opened_of (base_rows t) (bind k (λ ks. apply (lay ks) (both (length ks) a b))) → Passed t a b
+    go (given ks) k w = record { ks = ks; known = k; lists = both_passed (base_rows t) ks (both (length ks) a b) x w h }
     go (refused r) k w = absurd (omega (arith, h, number-pos r, ap (λ (y : Opened). y.refusal) w))
 
 -- a list that passes is resolved
 few_taken : (l : Factors) → l.len ≤ 16 → length (list_of l) ≤ 16
 few_taken l h = simp length-take (omega arith)
 
-resolved : (m : Mode) (ks : List Facts) (among : List Factor) (a : Factors) (l : Items) → refusal_of (checked (length ks) a) ≡ 0 → All (λ f. Stands f.row among) (list_of a) → l ≡ pack_items (view_of m ks among) (list_of a) → Resolved (view_of m ks among) l (list_of a)
-resolved m ks among a l h n e = record { is = e; short = few_taken a (short (length ks) a h); shaped = no_fault (length ks) a h; named = n; placed = view_placed m ks among }
+resolved : (ks : List Facts) (among : List Factor) (a : Factors) (l : Items) → refusal_of (checked (length ks) a) ≡ 0 → All (λ f. Stands f.row among) (list_of a) → l ≡ pack_items (view_of ks among) (list_of a) → Resolved (view_of ks among) l (list_of a)
+resolved ks among a l h n e = record { is = e; short = few_taken a (short (length ks) a h); shaped = no_fault (length ks) a h; named = n; placed = view_placed ks among }
 
 -- ---- what a call learns
 
-module _ (t : Table) (a b : Factors) (x : Opened) (e : x ≡ opened_of t.mode (base_rows t) (opening t a b)) where
+module _ (t : Rows) (a b : Factors) (x : Opened) (e : x ≡ opened_of (base_rows t) (opening t a b)) where
   pub ready : x.refusal ≡ 0 → Ready t a b x
   ready h =
       let p = passed t a b x e h in
@@ -73,7 +72,7 @@ module _ (t : Table) (a b : Factors) (x : Opened) (e : x ≡ opened_of t.mode (b
       let gs = list_of b in
       let n = length p.ks in
       let o : opening t a b ≡ given (lay p.ks (fs, gs)) = sym (lists-next t a b p.ks p.known) ∙ ap (apply (lay p.ks)) (both_pass n a b p.lists) in
-      let q = e ∙ ap (opened_of t.mode (base_rows t)) o in
+      let q = e ∙ ap (opened_of (base_rows t)) o in
       let slots = ap (λ (y : Opened). y.slots) q in
       record {
         ks = p.ks;
@@ -82,18 +81,18 @@ module _ (t : Table) (a b : Factors) (x : Opened) (e : x ≡ opened_of t.mode (b
         known = p.known;
         opened = o;
         slots = slots;
-        first = resolved t.mode p.ks (fs ++ gs) a x.a (first_passed n a b p.lists) (first-named fs gs) (ap (λ (y : Opened). y.a) q);
-        second = resolved t.mode p.ks (fs ++ gs) b x.b (second_passed n a b p.lists) (second-named fs gs) (ap (λ (y : Opened). y.b) q);
+        first = resolved p.ks (fs ++ gs) a x.a (first_passed n a b p.lists) (first-named fs gs) (ap (λ (y : Opened). y.a) q);
+        second = resolved p.ks (fs ++ gs) b x.b (second_passed n a b p.lists) (second-named fs gs) (ap (λ (y : Opened). y.b) q);
         rules = rules_told t p.ks (fs ++ gs) x.slots.len (slots_len x.slots (base_rows t) slots);
       }
 
   -- the call whose own work is W refuses as the opening did
   pub stopped : {A : Type 0} (W : List Facts → List Factor → List Factor → Outcome A) → (x.refusal ≡ 0 → ⊥) → Refuses (Call t a b W) x.refusal
-  stopped W h = call_refuses t a b W x.refusal (struct_refuses (opened_of t.mode (base_rows t)) (λ (y : Opened). y.refusal) (λ p. refl) (λ r. refl) (opening t a b) x e h)
+  stopped W h = call_refuses t a b W x.refusal (struct_refuses (opened_of (base_rows t)) (λ (y : Opened). y.refusal) (λ p. refl) (λ r. refl) (opening t a b) x e h)
 
-module _ {t : Table} {a b : Factors} {x : Opened} (r : Ready t a b x) where
+module _ {t : Rows} {a b : Factors} {x : Opened} (r : Ready t a b x) where
   abbrev pub seen : View
-  seen = view_of t.mode r.ks (r.fs ++ r.gs)
+  seen = view_of r.ks (r.fs ++ r.gs)
 
   -- the call whose own work is W goes on with it
   pub goes : {A : Type 0} (W : List Facts → List Factor → List Factor → Outcome A) → Call t a b W ≡ W r.ks r.fs r.gs
@@ -104,5 +103,5 @@ module _ {t : Table} {a b : Factors} {x : Opened} (r : Ready t a b x) where
   lends nums dens tells = subst (λ n. Lends seen n nums dens) (sym (slots_len x.slots (base_rows t) r.slots)) (tells r.ks r.known (r.fs ++ r.gs))
 
 -- a call on one list opens the empty one beside it
-pub beside : {t : Table} {a b c : Factors} {x : Opened} {nums : List ℤ} {dens : List ℕ} → b ≡ c → Opens t a b x nums dens → Opens t a c x nums dens
+pub beside : {t : Rows} {a b c : Factors} {x : Opened} {nums : List ℤ} {dens : List ℕ} → b ≡ c → Opens t a b x nums dens → Opens t a c x nums dens
 beside {t} {a} {b} {c} {x} {nums} {dens} e o = subst (λ b. Opens t a b x nums dens) e o

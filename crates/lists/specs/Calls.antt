@@ -5,7 +5,7 @@ use Rattle.exponents.specs.Outcome.{Outcome, apply, bind}
 use Rattle.exponents.specs.declared.Exponent.{Exponent}
 use Rattle.units.specs.declared.Factor.{Factor}
 use Rattle.units.specs.declared.Factors.{Factors}
-use Rattle.units.specs.Modes.{Table}
+use Rattle.units.specs.declared.Rows.{Rows}
 use Rattle.units.specs.Lists as lists
 use Rattle.units.specs.Lists.{checked, both}
 use Rattle.tables.specs.Rows.{table, base_rows}
@@ -15,7 +15,7 @@ use Rattle.canonical.specs.Equality as equality
 use Rattle.reduction.specs.Multiple.{Maybe, is_multiple}
 use Rattle.reduction.specs.Reduction as reductions
 
-module _ (t : Table) where
+module _ (t : Rows) where
   -- lists joined, unmerged
   unfoldable pub product : Factors → Factors → Outcome (List Factor)
   product a b = bind (table t) (λ ks. lists.product (length ks) a b)

@@ -3,8 +3,7 @@ use Rattle.std.specs.Prelude.{◌≡◌, List, [], ◌++◌, ℕ, ℤ, length}
 use Rattle.exponents.specs.Outcome.{Outcome, given, refused, number, apply, bind}
 use Rattle.units.specs.declared.Factor.{Factor}
 use Rattle.units.specs.declared.Factors.{Factors}
-use Rattle.units.specs.declared.Mode.{Mode}
-use Rattle.units.specs.Modes.{Table}
+use Rattle.units.specs.declared.Rows.{Rows}
 use Rattle.units.specs.Lists.{both}
 use Rattle.tables.specs.declared.Slot.{Slot}
 use Rattle.tables.specs.Rows.{Facts, table, base_rows}
@@ -17,26 +16,26 @@ pub record Opening : Type 0 where
   pub first : List Factor
   pub second : List Factor
 
-unfoldable pub opening : Table → Factors → Factors → Outcome Opening
+unfoldable pub opening : Rows → Factors → Factors → Outcome Opening
 opening t a b = bind (table t) (λ ks. apply (λ p. record { rows = ks; first = p.0; second = p.1 }) (both (length ks) a b))
 
 abbrev pub unopened : ℕ → Opened
 unopened n = record { a = no_items_lem; b = no_items_lem; slots = pack_slots []; refusal = n }
 
-abbrev pub opened_of : Mode → List Slot → Outcome Opening → Opened
-opened_of m ss (given o) = record {
-  a = pack_items (view_of m o.rows (o.first ++ o.second)) o.first;
-  b = pack_items (view_of m o.rows (o.first ++ o.second)) o.second;
+abbrev pub opened_of : List Slot → Outcome Opening → Opened
+opened_of ss (given o) = record {
+  a = pack_items (view_of o.rows (o.first ++ o.second)) o.first;
+  b = pack_items (view_of o.rows (o.first ++ o.second)) o.second;
   slots = pack_slots ss;
   refusal = 0;
 }
-opened_of m ss (refused r) = unopened (number r)
+opened_of ss (refused r) = unopened (number r)
 
 -- two arrays tell the base exponents of a table's rows, where it is admitted
-abbrev pub Tells : Table → List ℤ → List ℕ → Type 0
-Tells t nums dens = (ks : List Facts) → table t ≡ given ks → (l : List Factor) → Lends (view_of t.mode ks l) (length (base_rows t)) nums dens
+abbrev pub Tells : Rows → List ℤ → List ℕ → Type 0
+Tells t nums dens = (ks : List Facts) → table t ≡ given ks → (l : List Factor) → Lends (view_of ks l) (length (base_rows t)) nums dens
 
 -- the table t and the lists a and b are opened: as x, with the base exponents of the table's rows in two arrays
-pub record Opens (t : Table) (a b : Factors) (x : Opened) (nums : List ℤ) (dens : List ℕ) : Type 0 where
-  pub is : x ≡ opened_of t.mode (base_rows t) (opening t a b)
+pub record Opens (t : Rows) (a b : Factors) (x : Opened) (nums : List ℤ) (dens : List ℕ) : Type 0 where
+  pub is : x ≡ opened_of (base_rows t) (opening t a b)
   pub tells : Tells t nums dens

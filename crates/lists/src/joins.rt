@@ -1,7 +1,7 @@
 // Lists of a table joined, unmerged: product, quotient and power (01, last sentence of "Canonical form"). `_over`: over a table that is checked.
 ghost use Rattle.std.specs.Prelude.{◌≡◌};
+ghost use Rattle.units.specs.declared.Rows.{Rows as Rowsᵛ};
 ghost use Rattle.units.specs.Lists.{made_of};
-ghost use Rattle.units.specs.Modes.{plain, Table, in_mode};
 ghost use Rattle.tables.specs.Rows.{admit, base_rows};
 ghost use Rattle.tables.specs.Held.{admitted_of};
 ghost use Rattle.lists.specs.Calls as spec;
@@ -9,10 +9,10 @@ ghost use Rattle.lists.specs.Calls as spec;
 use exponents::Exponent;
 use tables::Admitted;
 use units::lists::Made;
-use units::{Factors, Mode, Rows};
+use units::{Factors, Rows};
 
 pub fn product_over(t: Admitted, a: Factors, b: Factors) -> Made
-    ensures { (rows : Table) → t ≡ admitted_of (base_rows rows) (admit rows) → result ≡ made_of (spec.product rows a b) }
+    ensures { (rows : Rowsᵛ) → t ≡ admitted_of (base_rows rows) (admit rows) → result ≡ made_of (spec.product rows a b) }
 {
     if t.refusal != 0 {
         return units::lists::refused(t.refusal);
@@ -20,21 +20,15 @@ pub fn product_over(t: Admitted, a: Factors, b: Factors) -> Made
     units::lists::product(t.len, a, b)
 }
 
-pub fn product_in(mode: Mode, rows: Rows, a: Factors, b: Factors) -> Made
-    ensures { result ≡ made_of (spec.product (in_mode mode rows) a b) }
+pub fn product(rows: Rows, a: Factors, b: Factors) -> Made
+    ensures { result ≡ made_of (spec.product rows a b) }
 {
-    let t = super::opening::admitted(mode, rows);
+    let t = super::opening::admitted(rows);
     product_over(t, a, b)
 }
 
-pub fn product(rows: Rows, a: Factors, b: Factors) -> Made
-    ensures { result ≡ made_of (spec.product (in_mode plain rows) a b) }
-{
-    product_in(units::modes::PLAIN, rows, a, b)
-}
-
 pub fn quotient_over(t: Admitted, a: Factors, b: Factors) -> Made
-    ensures { (rows : Table) → t ≡ admitted_of (base_rows rows) (admit rows) → result ≡ made_of (spec.quotient rows a b) }
+    ensures { (rows : Rowsᵛ) → t ≡ admitted_of (base_rows rows) (admit rows) → result ≡ made_of (spec.quotient rows a b) }
 {
     if t.refusal != 0 {
         return units::lists::refused(t.refusal);
@@ -42,21 +36,15 @@ pub fn quotient_over(t: Admitted, a: Factors, b: Factors) -> Made
     units::lists::quotient(t.len, a, b)
 }
 
-pub fn quotient_in(mode: Mode, rows: Rows, a: Factors, b: Factors) -> Made
-    ensures { result ≡ made_of (spec.quotient (in_mode mode rows) a b) }
+pub fn quotient(rows: Rows, a: Factors, b: Factors) -> Made
+    ensures { result ≡ made_of (spec.quotient rows a b) }
 {
-    let t = super::opening::admitted(mode, rows);
+    let t = super::opening::admitted(rows);
     quotient_over(t, a, b)
 }
 
-pub fn quotient(rows: Rows, a: Factors, b: Factors) -> Made
-    ensures { result ≡ made_of (spec.quotient (in_mode plain rows) a b) }
-{
-    quotient_in(units::modes::PLAIN, rows, a, b)
-}
-
 pub fn list_power_over(t: Admitted, a: Factors, e: Exponent) -> Made
-    ensures { (rows : Table) → t ≡ admitted_of (base_rows rows) (admit rows) → result ≡ made_of (spec.list_power rows a e) }
+    ensures { (rows : Rowsᵛ) → t ≡ admitted_of (base_rows rows) (admit rows) → result ≡ made_of (spec.list_power rows a e) }
 {
     if t.refusal != 0 {
         return units::lists::refused(t.refusal);
@@ -64,15 +52,9 @@ pub fn list_power_over(t: Admitted, a: Factors, e: Exponent) -> Made
     units::lists::list_power(t.len, a, e)
 }
 
-pub fn list_power_in(mode: Mode, rows: Rows, a: Factors, e: Exponent) -> Made
-    ensures { result ≡ made_of (spec.list_power (in_mode mode rows) a e) }
-{
-    let t = super::opening::admitted(mode, rows);
-    list_power_over(t, a, e)
-}
-
 pub fn list_power(rows: Rows, a: Factors, e: Exponent) -> Made
-    ensures { result ≡ made_of (spec.list_power (in_mode plain rows) a e) }
+    ensures { result ≡ made_of (spec.list_power rows a e) }
 {
-    list_power_in(units::modes::PLAIN, rows, a, e)
+    let t = super::opening::admitted(rows);
+    list_power_over(t, a, e)
 }

@@ -3,14 +3,13 @@ ghost use Rattle.std.specs.Prelude.{◌≡◌, List, length};
 ghost use Rattle.units.specs.declared.Factor.{Factor as Factorᵛ};
 ghost use Rattle.units.specs.Lists.{pack};
 ghost use Rattle.units.specs.declared.Rows.{Rows as Rowsᵛ};
-ghost use Rattle.units.specs.Modes.{in_mode};
 ghost use Rattle.tables.specs.Rows.{admit, base_rows};
 ghost use Rattle.tables.specs.Held.{Room, Blank, admitted_of, View, no_items_lem, Resolved, Admits};
 ghost use Rattle.lists.specs.Held as spec;
 ghost use Rattle.lists.specs.Held.{opened_of, unopened, Opens};
 
 use tables::{Admitted, Items, Slots};
-use units::{Factors, Mode, Rows};
+use units::{Factors, Rows};
 
 // Two resolved lists and the table's base rows; or nothing beside the number of the refusal.
 #[derive(Drop)]
@@ -33,9 +32,8 @@ fn unopened(refusal: u32, none: Items) -> Opened
     }
 }
 
-// Two lists over a table admitted by a mode.
+// Two lists over an admitted table.
 pub fn open_over(
-    mode: Mode,
     t: Admitted,
     nums: &[i32],
     dens: &[u32],
@@ -46,13 +44,13 @@ pub fn open_over(
     b: Factors,
 ) -> Opened
     requires { Room nums.now dens.now scales.now ranks.now based.now }
-    ensures { (rows : Rowsᵛ) → Admits (in_mode mode rows) t nums.now dens.now scales.now ranks.now based.now → result ≡ opened_of mode (base_rows (in_mode mode rows)) (spec.opening (in_mode mode rows) a b) }
+    ensures { (rows : Rowsᵛ) → Admits rows t nums.now dens.now scales.now ranks.now based.now → result ≡ opened_of (base_rows rows) (spec.opening rows a b) }
 {
     let none = tables::no_items();
     if t.refusal != 0 {
         return unopened(t.refusal, none);
     }
-    let l = resolution::resolve(mode, t.len, nums, dens, scales, ranks, based, a, b, none);
+    let l = resolution::resolve(t.len, nums, dens, scales, ranks, based, a, b, none);
     if l.refusal != 0 {
         return unopened(l.refusal, none);
     }
@@ -68,8 +66,8 @@ pub fn open_over(
 }
 
 // A table alone, checked.
-pub fn admitted(mode: Mode, rows: Rows) -> Admitted
-    ensures { result ≡ admitted_of (base_rows (in_mode mode rows)) (admit (in_mode mode rows)) }
+pub fn admitted(rows: Rows) -> Admitted
+    ensures { result ≡ admitted_of (base_rows rows) (admit rows) }
 {
     let mut nums = [0i32; 2048];
     let mut dens = [1u32; 2048];
@@ -77,7 +75,6 @@ pub fn admitted(mode: Mode, rows: Rows) -> Admitted
     let mut ranks = [0u16; 128];
     let mut based = [false; 128];
     tables::admission::admit(
-        mode,
         rows,
         &mut nums,
         &mut dens,
@@ -88,22 +85,15 @@ pub fn admitted(mode: Mode, rows: Rows) -> Admitted
 }
 
 // A table and two lists, opened; the base exponents of the table's rows are left in two arrays, which have to be new.
-pub fn open_lists(
-    mode: Mode,
-    rows: Rows,
-    a: Factors,
-    b: Factors,
-    nums: &mut [i32],
-    dens: &mut [u32],
-) -> Opened
+pub fn open_lists(rows: Rows, a: Factors, b: Factors, nums: &mut [i32], dens: &mut [u32]) -> Opened
     requires { (length nums.old ≡ 2048) × (length dens.old ≡ 2048) × Blank 0 nums.old dens.old }
-    ensures { Opens (in_mode mode rows) a b result nums.new dens.new }
+    ensures { Opens rows a b result nums.new dens.new }
 {
     let mut scales = [1.0; 128];
     let mut ranks = [0u16; 128];
     let mut based = [false; 128];
-    let t = tables::admission::admit(mode, rows, nums, dens, &mut scales, &mut ranks, &mut based);
-    open_over(mode, t, nums, dens, &scales, &ranks, &based, a, b)
+    let t = tables::admission::admit(rows, nums, dens, &mut scales, &mut ranks, &mut based);
+    open_over(t, nums, dens, &scales, &ranks, &based, a, b)
 }
 
 // The factors of a resolved list.

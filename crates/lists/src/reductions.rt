@@ -1,8 +1,8 @@
 // Reduction of a list of a table, the smaller of two units, and whether one is a power of the other (01, "Powers and scales", "The refusals", "Simplification"). `_over`: over lists that are opened.
 ghost use Rattle.std.specs.Prelude.{◌≡◌, []};
 ghost use Rattle.units.specs.declared.Factors.{Factors as Factorsᵛ};
+ghost use Rattle.units.specs.declared.Rows.{Rows as Rowsᵛ};
 ghost use Rattle.units.specs.Lists.{pack, made_of};
-ghost use Rattle.units.specs.Modes.{plain, Table, in_mode};
 ghost use Rattle.reduction.specs.Multiple.{multiple_is};
 ghost use Rattle.reduction.specs.Reduction.{reduced_of};
 ghost use Rattle.lists.specs.Held.{Opens};
@@ -12,10 +12,10 @@ use super::opening::Opened;
 use reduction::multiples::Multiple;
 use reduction::reduce::{Reduced, Smaller};
 use units::lists::Made;
-use units::{Factors, Mode, Rows};
+use units::{Factors, Rows};
 
 pub fn reduce_list_over(o: Opened, nums: &[i32], dens: &[u32]) -> Reduced
-    ensures { (rows : Table) (l : Factorsᵛ) → Opens rows l (pack []) o nums.now dens.now → result ≡ reduced_of (spec.reduction rows l) }
+    ensures { (rows : Rowsᵛ) (l : Factorsᵛ) → Opens rows l (pack []) o nums.now dens.now → result ≡ reduced_of (spec.reduction rows l) }
 {
     if o.refusal != 0 {
         return reduction::reduce::not_reduced(o.refusal);
@@ -25,25 +25,19 @@ pub fn reduce_list_over(o: Opened, nums: &[i32], dens: &[u32]) -> Reduced
     reduction::reduce::reduce_list(x, s, nums, dens)
 }
 
-pub fn reduce_list_in(mode: Mode, rows: Rows, l: Factors) -> Reduced
-    ensures { result ≡ reduced_of (spec.reduction (in_mode mode rows) l) }
+pub fn reduce_list(rows: Rows, l: Factors) -> Reduced
+    ensures { result ≡ reduced_of (spec.reduction rows l) }
 {
     let mut nums = [0i32; 2048];
     let mut dens = [1u32; 2048];
     let none = units::lists::empty();
-    let o = super::opening::open_lists(mode, rows, l, none, &mut nums, &mut dens);
+    let o = super::opening::open_lists(rows, l, none, &mut nums, &mut dens);
     reduce_list_over(o, &nums, &dens)
-}
-
-pub fn reduce_list(rows: Rows, l: Factors) -> Reduced
-    ensures { result ≡ reduced_of (spec.reduction (in_mode plain rows) l) }
-{
-    reduce_list_in(units::modes::PLAIN, rows, l)
 }
 
 // The list itself, as it was given.
 pub fn smaller_unit_over(o: Opened, nums: &[i32], dens: &[u32]) -> Made
-    ensures { (rows : Table) (a b : Factorsᵛ) → Opens rows a b o nums.now dens.now → result ≡ made_of (spec.smaller_unit rows a b) }
+    ensures { (rows : Rowsᵛ) (a b : Factorsᵛ) → Opens rows a b o nums.now dens.now → result ≡ made_of (spec.smaller_unit rows a b) }
 {
     if o.refusal != 0 {
         return units::lists::refused(o.refusal);
@@ -71,23 +65,17 @@ pub fn smaller_unit_over(o: Opened, nums: &[i32], dens: &[u32]) -> Made
     }
 }
 
-pub fn smaller_unit_in(mode: Mode, rows: Rows, a: Factors, b: Factors) -> Made
-    ensures { result ≡ made_of (spec.smaller_unit (in_mode mode rows) a b) }
+pub fn smaller_unit(rows: Rows, a: Factors, b: Factors) -> Made
+    ensures { result ≡ made_of (spec.smaller_unit rows a b) }
 {
     let mut nums = [0i32; 2048];
     let mut dens = [1u32; 2048];
-    let o = super::opening::open_lists(mode, rows, a, b, &mut nums, &mut dens);
+    let o = super::opening::open_lists(rows, a, b, &mut nums, &mut dens);
     smaller_unit_over(o, &nums, &dens)
 }
 
-pub fn smaller_unit(rows: Rows, a: Factors, b: Factors) -> Made
-    ensures { result ≡ made_of (spec.smaller_unit (in_mode plain rows) a b) }
-{
-    smaller_unit_in(units::modes::PLAIN, rows, a, b)
-}
-
 pub fn is_multiple_of_over(o: Opened, nums: &[i32], dens: &[u32]) -> Multiple
-    ensures { (rows : Table) (a b : Factorsᵛ) → Opens rows a b o nums.now dens.now → result ≡ multiple_is (spec.multiple rows a b) }
+    ensures { (rows : Rowsᵛ) (a b : Factorsᵛ) → Opens rows a b o nums.now dens.now → result ≡ multiple_is (spec.multiple rows a b) }
 {
     if o.refusal != 0 {
         return Multiple::Refused(o.refusal);
@@ -98,17 +86,11 @@ pub fn is_multiple_of_over(o: Opened, nums: &[i32], dens: &[u32]) -> Multiple
     reduction::multiples::is_multiple_of(x, y, s.len, nums, dens)
 }
 
-pub fn is_multiple_of_in(mode: Mode, rows: Rows, a: Factors, b: Factors) -> Multiple
-    ensures { result ≡ multiple_is (spec.multiple (in_mode mode rows) a b) }
+pub fn is_multiple_of(rows: Rows, a: Factors, b: Factors) -> Multiple
+    ensures { result ≡ multiple_is (spec.multiple rows a b) }
 {
     let mut nums = [0i32; 2048];
     let mut dens = [1u32; 2048];
-    let o = super::opening::open_lists(mode, rows, a, b, &mut nums, &mut dens);
+    let o = super::opening::open_lists(rows, a, b, &mut nums, &mut dens);
     is_multiple_of_over(o, &nums, &dens)
-}
-
-pub fn is_multiple_of(rows: Rows, a: Factors, b: Factors) -> Multiple
-    ensures { result ≡ multiple_is (spec.multiple (in_mode plain rows) a b) }
-{
-    is_multiple_of_in(units::modes::PLAIN, rows, a, b)
 }

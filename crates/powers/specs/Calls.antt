@@ -2,14 +2,14 @@
 use Rattle.std.specs.Prelude.{[], length}
 use Rattle.exponents.specs.Outcome.{Outcome, bind}
 use Rattle.units.specs.declared.Quantity.{Quantity}
-use Rattle.units.specs.Modes.{Table}
+use Rattle.units.specs.declared.Rows.{Rows}
 use Rattle.units.specs.Lists.{both}
 use Rattle.tables.specs.Rows.{table}
 use Rattle.tables.specs.Rules.{rules_in}
 use Rattle.conversion.specs.Conversion.{convert}
 use Rattle.powers.specs.Powers.{raised_to}
 
-module _ (t : Table) where
+module _ (t : Rows) where
   -- the exponent's conversion to scalar, ZERONEG, NONWHOLE, RANGE
   unfoldable pub checked_power : Quantity → Quantity → Outcome Quantity
   checked_power q p =

@@ -1,8 +1,8 @@
 // Powers of quantities (01, "The refusals", "Powers and scales", last sentence of "Canonical form").
 // Public: `checked_power`, and its half `checked_power_over` for a table and lists that are opened already. Neither asks anything of its caller.
 ghost use Rattle.std.specs.Prelude.{◌≡◌, ◌≤◌};
+ghost use Rattle.units.specs.declared.Rows.{Rows as Rowsᵛ};
 ghost use Rattle.units.specs.Lists.{list_of};
-ghost use Rattle.units.specs.Modes.{plain, Table, in_mode};
 ghost use Rattle.lists.specs.Held.{Opens};
 ghost use Rattle.values.specs.Quantities.{answered_of};
 ghost use Rattle.powers.specs.Powers as powers;
@@ -12,7 +12,7 @@ use conversion::convert::Converted;
 use exponents::Exponent;
 use exponents::refusals::{SHAPE, ZERONEG};
 use lists::opening::Opened;
-use units::{Factors, Mode, Quantity, Rows};
+use units::{Factors, Quantity, Rows};
 use values::answers;
 use values::answers::Answer;
 use whole::Whole;
@@ -44,7 +44,7 @@ fn raised_to(value: f64, l: Factors, x: f64) -> Answer
 
 // The exponent is a quantity: it is converted to the empty list first. Over the opened table and lists.
 pub fn checked_power_over(o: Opened, q: Quantity, p: Quantity, nums: &[i32], dens: &[u32]) -> Answer
-    ensures { (rows : Table) → Opens rows q.unit p.unit o nums.now dens.now → result ≡ answered_of (spec.checked_power rows q p) }
+    ensures { (rows : Rowsᵛ) → Opens rows q.unit p.unit o nums.now dens.now → result ≡ answered_of (spec.checked_power rows q p) }
 {
     if o.refusal != 0 {
         return answers::refused(o.refusal);
@@ -65,19 +65,13 @@ pub fn checked_power_over(o: Opened, q: Quantity, p: Quantity, nums: &[i32], den
     raised_to(q.value, l, x)
 }
 
-pub fn checked_power_in(mode: Mode, rows: Rows, q: Quantity, p: Quantity) -> Answer
-    ensures { result ≡ answered_of (spec.checked_power (in_mode mode rows) q p) }
+pub fn checked_power(rows: Rows, q: Quantity, p: Quantity) -> Answer
+    ensures { result ≡ answered_of (spec.checked_power rows q p) }
 {
     let mut nums = [0i32; 2048];
     let mut dens = [1u32; 2048];
     let u = q.unit;
     let w = p.unit;
-    let o = lists::opening::open_lists(mode, rows, u, w, &mut nums, &mut dens);
+    let o = lists::opening::open_lists(rows, u, w, &mut nums, &mut dens);
     checked_power_over(o, q, p, &nums, &dens)
-}
-
-pub fn checked_power(rows: Rows, q: Quantity, p: Quantity) -> Answer
-    ensures { result ≡ answered_of (spec.checked_power (in_mode plain rows) q p) }
-{
-    checked_power_in(units::modes::PLAIN, rows, q, p)
 }

@@ -20,11 +20,11 @@ use Rattle.units.specs.declared.Factor.{Factor}
 use Rattle.units.specs.declared.Kind.{Kind}
 use Rattle.units.specs.declared.Kind.TheVariants.{Base, Derived}
 use Rattle.units.specs.declared.Row.{Row}
-use Rattle.units.specs.Modes.{Table}
+use Rattle.units.specs.declared.Rows.{Rows}
 use Rattle.units.specs.Lists.{some, unknown}
 use Rattle.tables.specs.declared.Slot.{Slot}
 use Rattle.tables.specs.Lists.{base_at, base}
-use Rattle.tables.specs.Rows.{Facts, nobody, exp_at, places, placed, slotted, slots_from, slots, is_base, count, kind_fault, table_fault, def_of, self_exp, row_facts, admitted, admit_from, rows_in, admit, base_rows}
+use Rattle.tables.specs.Rows.{Facts, nobody, exp_at, places, placed, slotted, slots_from, slots, is_base, count, kind_fault, table_fault, def_of, self_exp, row_facts, admitted, admit_from, rows_of, admit, base_rows}
 use Rattle.tables.specs.Rules.{rules_in}
 use Rattle.tables.specs.Held.{no_slot}
 use Rattle.exponents.proofs.Each.{all_imp}
@@ -180,9 +180,9 @@ module _ (ss : List Slot) where
         omega (arith, ltb-false 15 (count (take i ks)) few)
 
 -- ---- in an admitted table
-module _ (t : Table) (ks : List Facts) (a : admit t ≡ admitted ks) (d : Row) where
+module _ (t : Rows) (ks : List Facts) (a : admit t ≡ admitted ks) (d : Row) where
   abbrev Rs : List Row
-  Rs = rows_in t
+  Rs = rows_of t
 
   among : (r : ℕ) → r < length Rs → (get_or Rs r d).kind ≡ Base → In r (base_rows t)
   among r p e =
@@ -240,10 +240,10 @@ unlike r v (s ∷ ss) (there q) h e = unlike r v ss q h (cons_rest e)
     cons_rest : {x y : Exponent} {l m : List Exponent} → ◌≡◌ {A = List Exponent} (x ∷ l) (y ∷ m) → l ≡ m
     cons_rest p = cc
 
-module _ (t : Table) (ks : List Facts) (a : admit t ≡ admitted ks) (d : Row) where
+module _ (t : Rows) (ks : List Facts) (a : admit t ≡ admitted ks) (d : Row) where
   -- the base row of f, to the power 1, with any prefix
   abbrev pub BaseUnit : Factor → Type 0
-  BaseUnit f = (f.row < length (rows_in t)) × ((get_or (rows_in t) f.row d).kind ≡ Base) × (f.exponent ≡ unit)
+  BaseUnit f = (f.row < length (rows_of t)) × ((get_or (rows_of t) f.row d).kind ≡ Base) × (f.exponent ≡ unit)
 
   -- it has 1 at itself, 0 at the others
   pub base-unit_has : (f : Factor) → BaseUnit f → base (rules_in t ks).bases (f ∷ []) ≡ given (map (self_exp f.row) (base_rows t))
@@ -252,7 +252,7 @@ module _ (t : Table) (ks : List Facts) (a : admit t ≡ admitted ks) (d : Row) w
       bases_once f u.2 (exp_at ks) 0 (base_rows t) λ j h.
       let z : 0 + j ≡ j = omega arith in
       rw z
-      (ap (λ l. get_or l j nought) (base_exps (base_rows t) (rows_in t) ks (admit-rows t ks a) d f.row u.0 u.1)
+      (ap (λ l. get_or l j nought) (base_exps (base_rows t) (rows_of t) ks (admit-rows t ks a) d f.row u.0 u.1)
       ∙ get_map (self_exp f.row) (base_rows t) j no_slot nought h)
 
   -- the scalar has 0 at all

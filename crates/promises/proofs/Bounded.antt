@@ -14,7 +14,7 @@ use Rattle.exponents.proofs.Holds.{holds_all, Holds, held, take_out, holds_eq, h
 use Rattle.exponents.proofs.InRange.{InRange, or_left, ranged_holds, sound, neg_in_range}
 use Rattle.units.specs.declared.Factor.{Factor}
 use Rattle.units.specs.declared.Factors.{Factors}
-use Rattle.units.specs.Modes.{Table}
+use Rattle.units.specs.declared.Rows.{Rows}
 use Rattle.units.specs.Prefixes.{prefix_fault}
 use Rattle.units.specs.Lists as units
 use Rattle.units.specs.Lists.{pack, factor_fault, checked, both, joined, with_exponent, inverted, raised}
@@ -82,7 +82,7 @@ raised_bounds e n (f ∷ l) h =
     holds_bind _ (holds_map _ (ranged_holds _ _ (with_bounded f _ h.1.0)) λ x b. b) λ g b.
     holds_map _ (raised_bounds e (n - 1) l (omega (arith, h.0), h.1.1)) λ m c. (omega (arith, h.0, c.0), (b, c.1))
 
-module _ (t : Table) where
+module _ (t : Rows) where
   -- ---- the lists of a call
 
   module _ (ks : List Facts) (k : table t ≡ given ks) where

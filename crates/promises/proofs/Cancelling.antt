@@ -8,7 +8,7 @@ use Rattle.exponents.specs.Outcome.{RANGE, UNITS, FRACTION, DENOMINATOR}
 use Rattle.units.specs.declared.Prefix.TheVariants.{Metric}
 use Rattle.units.specs.declared.Factor.{Factor}
 use Rattle.units.specs.declared.Row.{Row}
-use Rattle.units.specs.Modes.{Table}
+use Rattle.units.specs.declared.Rows.{Rows}
 use Rattle.units.specs.Lists.{pack}
 use Rattle.lent.specs.Lent.{lent_rows_lem}
 use Rattle.promises.specs.Table.{factor, root, plain, base_row, derived_row}
@@ -64,11 +64,11 @@ known length =
     ∷ derived_row 7 one (plain metre (pos 65536) ∷ [])
     ∷ []
 
-unfoldable table : Table
+unfoldable table : Rows
 table = lent_rows_lem (known sixty)
 
 -- with an hour of 0.1 minutes
-unfoldable other : Table
+unfoldable other : Rows
 other = lent_rows_lem (known 0x3fb9_9999_9999_999a)
 
 abbrev half : ℕ → Factor
@@ -85,7 +85,7 @@ abbrev answers : ℕ → List Factor → Says
 answers v l = gives v (pack l) true
 
 -- by the old rule and by the new
-abbrev both : Table → ℕ → List Factor → List Factor → Says → Says → List Case
+abbrev both : Rows → ℕ → List Factor → List Factor → Says → Says → List Case
 both t v l m old new = (convert_to t (marked v l) m, old) ∷ (convert_merged t (marked v l) m, new) ∷ []
 
 cases : List Case

@@ -14,7 +14,7 @@ use Rattle.units.specs.declared.Factor.{Factor}
 use Rattle.units.specs.declared.Candidate.{Candidate}
 use Rattle.units.specs.declared.Candidates.{Candidates}
 use Rattle.units.specs.declared.Quantity.{Quantity}
-use Rattle.units.specs.Modes.{Table}
+use Rattle.units.specs.declared.Rows.{Rows}
 use Rattle.units.specs.Lists.{checked}
 use Rattle.tables.specs.Rows.{Facts, table, base_rows}
 use Rattle.tables.specs.Rules.{rules_in}
@@ -43,7 +43,7 @@ module _ (S : Refusal → Type 0) (shape : S SHAPE) (un : S UNKNOWN) (rows : ℕ
   candidates_only c = only_unless _ SHAPE shape (lists_only 0 (take c.len c.at))
 
 -- q is a quantity of the admitted table t, fs its list
-module _ (t : Table) (ks : List Facts) (k : table t ≡ given ks) (q : Quantity) (fs : List Factor) (h : checked (length ks) q.unit ≡ given fs) (c : Candidates) where
+module _ (t : Rows) (ks : List Facts) (k : table t ≡ given ks) (q : Quantity) (fs : List Factor) (h : checked (length ks) q.unit ≡ given fs) (c : Candidates) where
   goes : full_simplify_with t q c ≡ bind (candidate_lists (length ks) c) (λ ms.
       pick q.mark (apply quantity_of (bind (simplify (rules_in t ks) q.value fs) (registered (rules_in t ks) (base_rows t) ms))) (given (made false q.value fs)))
   unfolding full_simplify_with
@@ -66,7 +66,7 @@ module _ (t : Table) (ks : List Facts) (k : table t ≡ given ks) (q : Quantity)
       (either_only S q.mark (only_map _ (only_bind _ _ (simplify_only_in t ks k q.unit fs h q.value S range fraction) λ a _. registered_only t ks k ms a S range fraction)) fine)
 
 -- THEOREM: never UNITS, whatever the rows, the quantity and the candidates
-module _ (t : Table) (q : Quantity) (c : Candidates) where
+module _ (t : Rows) (q : Quantity) (c : Candidates) where
   simplify_refuses : Only NotUnits (full_simplify_with t q c)
   unfolding full_simplify_with
   simplify_refuses =

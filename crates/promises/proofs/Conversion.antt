@@ -12,7 +12,7 @@ use Rattle.exponents.proofs.Rationals.{value}
 use Rattle.units.specs.declared.Factor.{Factor}
 use Rattle.units.specs.declared.Factors.{Factors}
 use Rattle.units.specs.declared.Quantity.{Quantity}
-use Rattle.units.specs.Modes.{Table}
+use Rattle.units.specs.declared.Rows.{Rows}
 use Rattle.units.specs.Lists.{both}
 use Rattle.tables.specs.Rows.{Facts, table}
 use Rattle.tables.specs.Rules.{Rules, rules_in, scale_by}
@@ -29,7 +29,7 @@ use Rattle.quantities.specs.Calls.{convert_with}
 use Rattle.halves.proofs.First.{through, apply_exactly}
 
 -- q is a quantity of the admitted table t and m a list of it; fs and gs are the two lists. `ready` is how the own list over the common factors is made ready: as it stands for `convert_to`, in canonical form for `convert_merged`.
-module _ (ready : Rules Float → List Factor → Outcome (List Factor)) (t : Table) (ks : List Facts) (k : table t ≡ given ks) (K : Ready value (ready (rules_in t ks)))
+module _ (ready : Rules Float → List Factor → Outcome (List Factor)) (t : Rows) (ks : List Facts) (k : table t ≡ given ks) (K : Ready value (ready (rules_in t ks)))
     (q : Quantity) (m : Factors) (fs gs : List Factor) (h : both (length ks) q.unit m ≡ given (fs, gs)) where
   abbrev pub in_target : Float → Quantity
   in_target v = fresh v gs

@@ -9,7 +9,7 @@ use Rattle.exponents.proofs.Holds.{Holds, take_out, holds_by, holds_imp}
 use Rattle.units.specs.declared.Factors.{Factors}
 use Rattle.units.specs.declared.Quantity.{Quantity}
 use Rattle.units.specs.declared.Row.{Row}
-use Rattle.units.specs.Modes.{Table}
+use Rattle.units.specs.declared.Rows.{Rows}
 use Rattle.lent.specs.Lent.{lent_rows_lem}
 use Rattle.counted.specs.Calls.{convert_to_counted, convert_merged_counted, counted_of}
 use Rattle.counted.specs.declared.Counted.{Counted}
@@ -41,7 +41,7 @@ counted_form = form.told (then quantity_form (then (number_form 4) (number_form 
 fitted : (o : Outcome (Quantity × ℕ)) (u : Outcome Quantity) → quantity_of o ≡ u → Holds QuantityFits u → ((p : Quantity × ℕ) → o ≡ given p → p.1 ≤ 3744) → Holds CountedFits o
 fitted o u e h k = holds_by _ o λ p g. record { quantity = take_out h (sym e ∙ ap quantity_of g); count = k p g }
 
-module _ (t : Table) (q : Quantity) (v : ValueFits q.value) (m : Factors) where
+module _ (t : Rows) (q : Quantity) (v : ValueFits q.value) (m : Factors) where
   pub convert_counted-fits : Holds CountedFits (convert_to_counted t q m)
   convert_counted-fits = fitted _ _ (values_stay t q m).0 (convert_fits t q v m) (λ p e. (bounds t q m p).0 e)
 

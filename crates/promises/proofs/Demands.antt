@@ -23,11 +23,11 @@ use Rattle.units.specs.declared.Factors.{Factors}
 use Rattle.units.specs.declared.Kind.TheVariants.{Base, Derived}
 use Rattle.units.specs.declared.Quantity.{Quantity}
 use Rattle.units.specs.declared.Row.{Row}
-use Rattle.units.specs.Modes.{Table}
+use Rattle.units.specs.declared.Rows.{Rows}
 use Rattle.units.specs.Lists.{list_of, checked, both, inverted, raised}
 use Rattle.units.proofs.Laws.{list_pack}
 use Rattle.tables.specs.Lists.{base}
-use Rattle.tables.specs.Rows.{Facts, def_of, rows_in, table, base_rows}
+use Rattle.tables.specs.Rows.{Facts, def_of, rows_of, table, base_rows}
 use Rattle.tables.specs.Rules.{Rules, rules_in, scale_by}
 use Rattle.tables.specs.Held.{no_slot}
 use Rattle.tables.proofs.Filled.{admit-rows}
@@ -64,7 +64,7 @@ use Rattle.promises.proofs.Simplification as simplification
 use Rattle.promises.proofs.WholeLists.{joined-sums, over-differences, raised-multiples, agree_is, is_agree}
 
 -- t is an admitted table, ks what is known of its rows
-module _ (t : Table) (ks : List Facts) (k : table t ≡ given ks) where
+module _ (t : Rows) (ks : List Facts) (k : table t ≡ given ks) where
   -- ---- what the sentences speak of
 
   -- the table's rules
@@ -128,11 +128,11 @@ module _ (t : Table) (ks : List Facts) (k : table t ≡ given ks) where
       (c, bind_given _ k ∙ bind_given _ h ∙ e, q ∙ ap given (sym (agree_is rules.bases fs c xs ys p q (take_out (canon_agree value rules (order_in_total ks) fs) e))))
 
   -- the row of f is derived; its definition, to f's exponent, stands in place of f between the lists l and m
-  pub definition_same : (d : Row) (f : Factor) (v : Float) → f.row < length (rows_in t) → (get_or (rows_in t) f.row d).kind ≡ Derived v → (p : List Factor) → each (raised f.exponent) (def_of (get_or (rows_in t) f.row d)) ≡ given p →
+  pub definition_same : (d : Row) (f : Factor) (v : Float) → f.row < length (rows_of t) → (get_or (rows_of t) f.row d).kind ≡ Derived v → (p : List Factor) → each (raised f.exponent) (def_of (get_or (rows_of t) f.row d)) ≡ given p →
       (l m : List Factor) (xs ys : List Exponent) → Has (l ++ (f ∷ m)) xs → Has (l ++ (p ++ m)) ys → ys ≡ xs
   definition_same d f v i e p g l m xs ys a b =
       agree_is rules.bases (l ++ (p ++ m)) (l ++ (f ∷ m)) ys xs b a
-      (take_out (define value (base_rows t) (rows_in t) ks (admit-rows t ks (admits t ks k)) d f i v e l m) g)
+      (take_out (define value (base_rows t) (rows_of t) ks (admit-rows t ks (admits t ks k)) d f i v e l m) g)
 
   -- ---- "converting a nonzero value between unequal units is refused as incompatible exactly when their base exponents differ; if they agree, the answer is the scaled value in the target unit, unless 01 names a fractional scale"
 
@@ -194,10 +194,10 @@ module _ (t : Table) (ks : List Facts) (k : table t ≡ given ks) where
 
   module _ (d : Row) where
     -- each base row has its place among the base rows; places rise in rank
-    pub base-rows-all : (r : ℕ) → r < length (rows_in t) → (get_or (rows_in t) r d).kind ≡ Base → (j : ℕ) × (j < length (base_rows t)) × ((get_or (base_rows t) j no_slot).row ≡ r)
+    pub base-rows-all : (r : ℕ) → r < length (rows_of t) → (get_or (rows_of t) r d).kind ≡ Base → (j : ℕ) × (j < length (base_rows t)) × ((get_or (base_rows t) j no_slot).row ≡ r)
     base-rows-all = units.base-rows-all t ks (admits t ks k) d
 
-    pub base-rows_only : All (λ s. (s.row < length (rows_in t)) × ((get_or (rows_in t) s.row d).kind ≡ Base) × ((get_or (rows_in t) s.row d).rank ≡ s.rank)) (base_rows t)
+    pub base-rows_only : All (λ s. (s.row < length (rows_of t)) × ((get_or (rows_of t) s.row d).kind ≡ Base) × ((get_or (rows_of t) s.row d).rank ≡ s.rank)) (base_rows t)
     base-rows_only = units.base-rows_only t ks (admits t ks k) d
 
     pub base-rows_rise : Rising (base_rows t)

@@ -22,7 +22,7 @@ use Rattle.units.specs.declared.Factor.{Factor}
 use Rattle.units.specs.declared.Factors.{Factors}
 use Rattle.units.specs.declared.Prefix.{Prefix}
 use Rattle.units.specs.declared.Quantity.{Quantity}
-use Rattle.units.specs.Modes.{Table}
+use Rattle.units.specs.declared.Rows.{Rows}
 use Rattle.units.specs.Prefixes.{prefix_fault}
 use Rattle.units.specs.Lists.{pack, inverted}
 use Rattle.tables.specs.Rows.{Facts, base_rows}
@@ -74,7 +74,7 @@ list_fits fs h = pack-fits fs (all_imp fs factor-fits h.1) h.0
 abbrev AmountFits : Amount → Type 0
 AmountFits a = ValueFits a.0 × Bounds a.1
 
-simplify_amount : (t : Table) (ks : List Facts) (v : Float) (l : List Factor) → ValueFits v → Bounds l → Holds AmountFits (simplify (rules_in t ks) v l)
+simplify_amount : (t : Rows) (ks : List Facts) (v : Float) (l : List Factor) → ValueFits v → Bounds l → Holds AmountFits (simplify (rules_in t ks) v l)
 simplify_amount t ks v l h b = holds_both (simplify_value t ks v l h) (simplify_within Bounded still_bounded (rules_in t ks) 16 v l b)
 
 made-fits : (mark : Bool) (v : Float) (fs : List Factor) → ValueFits v → Bounds fs → QuantityFits (made mark v fs)
@@ -96,7 +96,7 @@ sum_fits R minus x y fs gs h k =
 
 -- ---- the calls on quantities
 
-module _ (t : Table) (q : Quantity) where
+module _ (t : Rows) (q : Quantity) where
   pub reduce-fits : Holds QuantityFits (values.reduce t q)
   unfolding values.reduce
   reduce-fits = holds_map _ (reduction_bounds t q.unit) λ p h. made-fits true _ p.0 (ieee.mul-fits binary64 q.value p.1) h
@@ -172,7 +172,7 @@ fine_fits : (m : Maybe) → Fine m → MultipleFits m
 fine_fits (times e) h = exponent_fits e (sound e h).0
 fine_fits none h = tt
 
-module _ (t : Table) (a : Factors) where
+module _ (t : Rows) (a : Factors) where
   pub list_power-fits : (e : Exponent) → Holds (λ fs. ListFits (pack fs)) (lists.list_power t a e)
   list_power-fits e = holds_imp (power_bounds t a e) list_fits
 

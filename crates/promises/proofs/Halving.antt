@@ -7,7 +7,7 @@ use Rattle.exponents.specs.Outcome.{RANGE, DENOMINATOR}
 use Rattle.units.specs.declared.Prefix.TheVariants.{Metric}
 use Rattle.units.specs.declared.Factor.{Factor}
 use Rattle.units.specs.declared.Row.{Row}
-use Rattle.units.specs.Modes.{Table}
+use Rattle.units.specs.declared.Rows.{Rows}
 use Rattle.units.specs.Lists.{pack}
 use Rattle.lent.specs.Lent.{lent_rows_lem}
 use Rattle.lists.specs.Calls as lists
@@ -49,10 +49,10 @@ known =
     ∷ []
 
 -- these, and one more row of the definition l
-abbrev with : List Factor → Table
+abbrev with : List Factor → Rows
 with l = lent_rows_lem (known ++ (derived_row 5 one l ∷ []))
 
-unfoldable table : Table
+unfoldable table : Rows
 table = lent_rows_lem known
 
 -- ---- lists whose merging leaves the range

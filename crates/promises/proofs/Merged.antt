@@ -16,7 +16,7 @@ use Rattle.units.specs.declared.Factor.{Factor}
 use Rattle.units.specs.declared.Factors.{Factors}
 use Rattle.units.specs.declared.Quantity.{Quantity}
 use Rattle.units.specs.declared.Row.{Row}
-use Rattle.units.specs.Modes.{Table}
+use Rattle.units.specs.declared.Rows.{Rows}
 use Rattle.units.specs.Lists.{both}
 use Rattle.lent.specs.Lent.{lent_rows_lem}
 use Rattle.tables.specs.Rows.{Facts, table}
@@ -45,7 +45,7 @@ use Rattle.promises.proofs.Fitting.{merged-fits, read_fits}
 use Rattle.promises.proofs.Shipped.{over-rows, over_bytes}
 
 -- t is an admitted table, ks what is known of its rows; q is a quantity of it and m a list of it, and fs and gs are the two lists
-module _ (t : Table) (ks : List Facts) (k : table t ≡ given ks) (q : Quantity) (m : Factors) (fs gs : List Factor) (h : both (length ks) q.unit m ≡ given (fs, gs)) where
+module _ (t : Rows) (ks : List Facts) (k : table t ≡ given ks) (q : Quantity) (m : Factors) (fs gs : List Factor) (h : both (length ks) q.unit m ≡ given (fs, gs)) where
   -- the six steps in which an exponent could leave the range: both canonical forms, the own list over the common factors in canonical form, its base exponents, the target over them in canonical form, and its base exponents
   pub record InRange (cl cm own l : List Factor) (x y : List Exponent) : Type 0 where
     pub own_form : canon (rules t ks k).order fs ≡ given cl
@@ -98,7 +98,7 @@ module _ (rs : List Row) (q : Quantity) (m : Factors) (r : Answer) (contract : r
 
 -- ---- as an exported function, over the bytes of a table, a quantity and a list: it returned n and left `end` in the room, by its contract
 module _ (tb qb mb room : List ℕ) (long : 336 ≤ length room) (n : ℕ) (end : List ℕ) (contract : Exported room (ask.convert_merged tb qb mb) n end) where
-  abbrev t : Table
+  abbrev t : Rows
   t = table_from tb
 
   abbrev q : Quantity

@@ -14,7 +14,7 @@ use Rattle.exponents.specs.Outcome.{SHAPE, TABLE, refused, unless}
 use Rattle.exponents.specs.Fractions.{beyond, faulty}
 use Rattle.units.specs.Prefixes.{prefix_fault, prefix_factor}
 use Rattle.units.specs.declared.Factors.{Factors}
-use Rattle.units.specs.Modes.{Table}
+use Rattle.units.specs.declared.Rows.{Rows}
 use Rattle.units.specs.Lists.{some, factor_fault, checked}
 use Rattle.tables.specs.Rows.{Facts, def_of, kind_fault, table_fault, stopped, admit}
 use Rattle.exponents.specs.Words.{pick}
@@ -120,7 +120,7 @@ module _ (size most n : ℕ) where
       go true e = lt_of_mul-lt-mul_left size (omega (arith, div-add-mod n size, eqb-true (n % size) 0 e))
       go false e = omega arith
 
-over_refused : (r : Table) → 128 < r.len → admit r ≡ stopped TABLE []
+over_refused : (r : Rows) → 128 < r.len → admit r ≡ stopped TABLE []
 unfolding admit
 over_refused r h = rw (lt-ltb 128 r.len h)
 

@@ -14,7 +14,7 @@ use Rattle.exponents.proofs.Rationals.{value}
 use Rattle.units.specs.declared.Factor.{Factor}
 use Rattle.units.specs.declared.Factors.{Factors}
 use Rattle.units.specs.declared.Quantity.{Quantity}
-use Rattle.units.specs.Modes.{Table}
+use Rattle.units.specs.declared.Rows.{Rows}
 use Rattle.units.specs.Lists.{checked, both}
 use Rattle.tables.specs.Rows.{Facts, table}
 use Rattle.tables.specs.Rules.{Rules, rules_in}
@@ -60,7 +60,7 @@ both_only : (rows : ℕ) (a b : Factors) → Only OfConversion (both rows a b)
 unfolding both
 both_only rows a b = only_bind (checked rows a) _ (checked_only OfConversion of_shape of-unknown rows a) λ fs _. only_map _ (checked_only OfConversion of_shape of-unknown rows b)
 
-module _ (t : Table) (q : Quantity) (m : Factors) where
+module _ (t : Rows) (q : Quantity) (m : Factors) where
   -- however the own list is made ready
   conversion_only : (ready : Rules Float → List Factor → Outcome (List Factor)) → ((ks : List Facts) → Ready value (ready (rules_in t ks))) → Only OfConversion (convert_with t (λ R. convert_by R (ready R)) q m)
   conversion_only ready K =
@@ -79,7 +79,7 @@ module _ (t : Table) (q : Quantity) (m : Factors) where
   merged_own r e = only_out (conversion_only (λ R. canon R.order) (λ ks. merges value (rules_in t ks) (order_in_total ks))) e
 
 -- ---- at the call: t is a table, ks are knots, u is a rule
-module _ (t : Table) (ks : List Quantity) (u : Rule) where
+module _ (t : Rows) (ks : List Quantity) (u : Rule) where
   -- what refuses the lowest knot that doesn't convert is a conversion's refusal
   pub lowest_own : {r : Refusal} → Lowest t u.unit ks r → OfConversion r
   lowest_own {r} l = merged_own t l.knot u.unit r l.refuses

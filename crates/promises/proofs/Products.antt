@@ -18,7 +18,7 @@ use Rattle.floats.specs.Values.{is_zero}
 use Rattle.units.specs.declared.Factor.{Factor}
 use Rattle.units.specs.declared.Factors.{Factors}
 use Rattle.units.specs.declared.Quantity.{Quantity}
-use Rattle.units.specs.Modes.{Table}
+use Rattle.units.specs.declared.Rows.{Rows}
 use Rattle.units.specs.Lists as units
 use Rattle.units.specs.Lists.{checked, both, joined, inverted, raised}
 use Rattle.tables.specs.Rows.{Facts, table}
@@ -43,7 +43,7 @@ room fs gs h = fault_passes (ltb 16 (length fs + length gs)) ROOM (given (fs ++ 
 room_over : (fs gs : List Factor) → Room fs gs → joined fs (along inverted gs) ≡ given (fs ++ along inverted gs)
 room_over fs gs h = room fs (along inverted gs) (omega (arith, length-map gs inverted))
 
-module _ (t : Table) (ks : List Facts) (k : table t ≡ given ks) where
+module _ (t : Rows) (ks : List Facts) (k : table t ≡ given ks) where
   -- a list of the table to any exponent that keeps its rule: l is the list with its exponents multiplied
   pub powers_list : (a : Factors) (fs l : List Factor) (e : Exponent) → checked (length ks) a ≡ given fs → faulty e ≡ false → each (raised e) fs ≡ given l → lists.list_power t a e ≡ given l
   unfolding lists.list_power units.list_power

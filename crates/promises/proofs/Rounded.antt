@@ -9,7 +9,7 @@ use Rattle.exponents.proofs.Holds.{holds_all, Holds, moot, held, holds_any, hold
 use Rattle.floats.specs.Power.{one}
 use Rattle.floats.proofs.Patterns.{bits_fit}
 use Rattle.units.specs.declared.Factor.{Factor}
-use Rattle.units.specs.Modes.{Table}
+use Rattle.units.specs.declared.Rows.{Rows}
 use Rattle.tables.specs.Scale.{scale_from_lem, doubles}
 use Rattle.tables.specs.Rows.{Facts}
 use Rattle.tables.specs.Rules.{Rules, rules_in, scale_by}
@@ -47,7 +47,7 @@ abbrev pub OfValue : Amount → Type 0
 OfValue a = ValueFits a.0
 
 -- ---- by a table's rules
-module _ (t : Table) (ks : List Facts) where
+module _ (t : Rows) (ks : List Facts) where
   abbrev rules : Rules Float
   rules = rules_in t ks
 

@@ -14,7 +14,7 @@ use Rattle.units.specs.declared.Factors.{Factors}
 use Rattle.units.specs.declared.Quantity.{Quantity}
 use Rattle.units.specs.declared.Candidate.{Candidate}
 use Rattle.units.specs.declared.Candidates.{Candidates}
-use Rattle.units.specs.Modes.{Table}
+use Rattle.units.specs.declared.Rows.{Rows}
 use Rattle.units.specs.Lists as factors
 use Rattle.units.specs.Lists.{pack, factor_fault, some, checked, both, with_exponent, joined, inverted, raised}
 use Rattle.lent.specs.Lent.{over, lent_rows_lem}
@@ -22,7 +22,7 @@ use Rattle.tables.specs.Lists.{base_at, base}
 use Rattle.keys.specs.Key as keys
 use Rattle.keys.specs.Key.{multiple, whole, wholes, divisor, below, turn, shrink, key, entry, entries, other, first}
 use Rattle.tables.specs.Scale.{raise as raisedBy, raised_to, scale_from_lem}
-use Rattle.tables.specs.Rows.{exp_at, scale_at, places, placed, slotted, slots_from, is_base, count, kind_fault, table_fault, row_exps, row_scale_lem, worked_out, row_facts, admit_from, admit}
+use Rattle.tables.specs.Rows.{exp_at, scale_at, places, placed, slotted, slots_from, is_base, count, kind_fault, table_fault, row_exps, row_scale, worked_out, row_facts, admit_from, admit}
 use Rattle.tables.specs.Order.{key_order, row_order}
 use Rattle.keys.specs.Orders.{is_eq}
 use Rattle.canonical.specs.Canonical as form
@@ -101,7 +101,7 @@ candidates ls = record { at = ranked 0 ls; len = length ls }
 abbrev pub quantity : Quantity → Says
 quantity q = gives (to_bits binary64 q.value) q.unit q.mark
 
-module _ (t : Table) where
+module _ (t : Rows) where
   abbrev pub product : List Factor → List Factor → Says
   product l m = says listed (lists.product t (pack l) (pack m))
 
@@ -159,5 +159,5 @@ module _ (t : Table) where
 
 -- `unfolding computed` opens what the calls are worked out by
 unfoldable pub computed : Unit {0}
-unfolding over lent_rows_lem says ranked unless bind each worked bits_of raise power ieee.add ieee.sub ieee.mul ieee.div ieee.neg ieee.eq ieee.lt ieee.le ieee.is_nan ieee.rem ieee.to_signed to_bits of_bits pack factor_fault some checked both with_exponent joined inverted raised factors.product factors.quotient factors.list_power base_at base multiple whole wholes divisor below turn shrink keys.reduce key entry entries other first raisedBy raised_to scale_from_lem exp_at scale_at places placed slotted slots_from is_base count kind_fault table_fault row_exps row_scale_lem worked_out row_facts admit_from admit key_order row_order place insert gather drop_if nonzero canon is_eq same_list same_all all_nought forms.equal first_base fits multiple_of is_multiple base_factors reduced reduced_scale reductions.reduction reductions.smaller_unit lists.product lists.quotient lists.list_power lists.canonical lists.reduction lists.same_lists lists.smaller_unit lists.multiple meet if_same with_shared shared_with_lem common judged choose rescaled against unlike convert_by whole.is_whole whole.is_beyond whole.whole_exponent powers.raised_to values.reduce equal_to ordered call.convert_to call.convert_merged call.equal call.compare together nonzero_sum sums.summed sums.add sums.subtract power-of.checked_power single.wholly single.search single.single groups.onto groups.groups groups.above groups.greatest groups.share groups.summed groups.fitted groups.target steps.go_on steps.attempt steps.grown steps.converted steps.by_groups steps.toward steps.further steps.simplify simplification.full_simplify registry.lists_from registry.candidate_lists registry.near_one registry.larger registry.close registry.is_single registry.after registry.fitting registry.turn registry.chosen registry.settled registry.registered registry-form.full_simplify_with
+unfolding over lent_rows_lem says ranked unless bind each worked bits_of raise power ieee.add ieee.sub ieee.mul ieee.div ieee.neg ieee.eq ieee.lt ieee.le ieee.is_nan ieee.rem ieee.to_signed to_bits of_bits pack factor_fault some checked both with_exponent joined inverted raised factors.product factors.quotient factors.list_power base_at base multiple whole wholes divisor below turn shrink keys.reduce key entry entries other first raisedBy raised_to scale_from_lem exp_at scale_at places placed slotted slots_from is_base count kind_fault table_fault row_exps row_scale worked_out row_facts admit_from admit key_order row_order place insert gather drop_if nonzero canon is_eq same_list same_all all_nought forms.equal first_base fits multiple_of is_multiple base_factors reduced reduced_scale reductions.reduction reductions.smaller_unit lists.product lists.quotient lists.list_power lists.canonical lists.reduction lists.same_lists lists.smaller_unit lists.multiple meet if_same with_shared shared_with_lem common judged choose rescaled against unlike convert_by whole.is_whole whole.is_beyond whole.whole_exponent powers.raised_to values.reduce equal_to ordered call.convert_to call.convert_merged call.equal call.compare together nonzero_sum sums.summed sums.add sums.subtract power-of.checked_power single.wholly single.search single.single groups.onto groups.groups groups.above groups.greatest groups.share groups.summed groups.fitted groups.target steps.go_on steps.attempt steps.grown steps.converted steps.by_groups steps.toward steps.further steps.simplify simplification.full_simplify registry.lists_from registry.candidate_lists registry.near_one registry.larger registry.close registry.is_single registry.after registry.fitting registry.turn registry.chosen registry.settled registry.registered registry-form.full_simplify_with
 computed = tt

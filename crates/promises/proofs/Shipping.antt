@@ -17,7 +17,7 @@ use Rattle.units.specs.declared.Factor.{Factor}
 use Rattle.units.specs.declared.Factors.{Factors}
 use Rattle.units.specs.declared.Quantity.{Quantity}
 use Rattle.units.specs.declared.Row.{Row}
-use Rattle.units.specs.Modes.{Table}
+use Rattle.units.specs.declared.Rows.{Rows}
 use Rattle.units.specs.Lists.{list_of, checked, both}
 use Rattle.lent.specs.Lent.{lent_rows_lem}
 use Rattle.tables.specs.Rows.{Facts, table}
@@ -44,7 +44,7 @@ use Rattle.promises.proofs.Fitting.{convert_fits, simplify_fits, read_fits}
 use Rattle.promises.proofs.Shipped.{over-rows, over_bytes}
 
 -- ---- `convert_to`: a nonzero value, unequal lists, and none of the five steps leaves the range
-module _ (t : Table) (ks : List Facts) (k : table t ≡ given ks) (q : Quantity) (m : Factors) (fs gs : List Factor) (h : both (length ks) q.unit m ≡ given (fs, gs))
+module _ (t : Rows) (ks : List Facts) (k : table t ≡ given ks) (q : Quantity) (m : Factors) (fs gs : List Factor) (h : both (length ks) q.unit m ≡ given (fs, gs))
     (nonzero : is_zero q.value ≡ false) (unequal : same_lists t q.unit m ≡ given false) {cl cm l : List Factor} {x y : List Exponent} (s : InRange t ks k q m fs gs h cl cm l x y) where
   -- what an answer must be: UNITS exactly where base exponents differ; the scaled value where they agree
   pub record Converts (o : Outcome Quantity) : Type 0 where
@@ -75,7 +75,7 @@ module _ (rs : List Row) (q : Quantity) (m : Factors) (r : Answer) (contract : r
 
 -- as an exported function, over the bytes of a table, a quantity and a list: it returned n and left `end` in the room, by its contract
 module _ (tb qb mb : List ℕ) where
-  abbrev t : Table
+  abbrev t : Rows
   t = table_from tb
 
   abbrev q : Quantity

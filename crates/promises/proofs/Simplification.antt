@@ -15,7 +15,7 @@ use Rattle.floats.specs.Values.{is_zero}
 use Rattle.units.specs.declared.Factor.{Factor}
 use Rattle.units.specs.declared.Factors.{Factors}
 use Rattle.units.specs.declared.Quantity.{Quantity}
-use Rattle.units.specs.Modes.{Table}
+use Rattle.units.specs.declared.Rows.{Rows}
 use Rattle.units.specs.Lists.{list_of, checked}
 use Rattle.units.proofs.Laws.{list_pack}
 use Rattle.tables.specs.Rows.{Facts, table}
@@ -32,7 +32,7 @@ use Rattle.simplification.proofs.Kept.{simplify_only_in, simplified_keeps}
 use Rattle.promises.proofs.Unadmitted.{checked_only, table_only}
 
 -- q is a quantity of the admitted table t, fs its list
-module _ (t : Table) (ks : List Facts) (k : table t ≡ given ks) (q : Quantity) (fs : List Factor) (h : checked (length ks) q.unit ≡ given fs) where
+module _ (t : Rows) (ks : List Facts) (k : table t ≡ given ks) (q : Quantity) (fs : List Factor) (h : checked (length ks) q.unit ≡ given fs) where
   -- p has its base exponents
   abbrev pub KeepsBase : Quantity → Type 0
   KeepsBase p = Agree value (rules_in t ks).bases fs (list_of p.unit)
@@ -71,14 +71,14 @@ shape_not_units e = let z : ◌≡◌ {A = ℕ} 0 1 = cc in omega arith
 pub unknown_not_units : NotUnits UNKNOWN
 unknown_not_units e = let z : ◌≡◌ {A = ℕ} 0 1 = cc in omega arith
 
-pub table_not_units : (t : Table) → Only NotUnits (table t)
+pub table_not_units : (t : Rows) → Only NotUnits (table t)
 table_not_units t = table_only NotUnits (λ e. let z : ◌≡◌ {A = ℕ} 0 1 = cc in omega arith) shape_not_units range_not_units fraction_not_units t
 
 pub list_not_units : (rows : ℕ) (l : Factors) → Only NotUnits (checked rows l)
 list_not_units = checked_only NotUnits shape_not_units unknown_not_units
 
 -- THEOREM: never UNITS, whatever the rows and the quantity
-module _ (t : Table) (q : Quantity) where
+module _ (t : Rows) (q : Quantity) where
   simplify_refuses : Only NotUnits (full_simplify t q)
   unfolding full_simplify
   simplify_refuses =

@@ -9,7 +9,7 @@ use Rattle.units.specs.declared.Factors.{Factors}
 use Rattle.units.specs.declared.Prefix.{Prefix}
 use Rattle.units.specs.declared.prefixes.PrefixFactor.{PrefixFactor}
 use Rattle.units.specs.declared.Quantity.{Quantity}
-use Rattle.units.specs.Modes.{Table}
+use Rattle.units.specs.declared.Rows.{Rows}
 use Rattle.units.specs.Prefixes.{prefix_factor, prefix_factor_of}
 use Rattle.canonical.specs.declared.equality.Verdict.{Verdict}
 use Rattle.canonical.specs.Equality.{verdict_of}
@@ -54,7 +54,7 @@ conversion_tells = told converted_of converted_told (told_of zero) go
     go (given v) = refl
     go (refused r) = refl
 
-module _ (t : Table) where
+module _ (t : Rows) where
   pub same_list_tells : (a b : Factors) (r : Verdict) → r ≡ verdict_of (same_lists t a b) → verdict_told r ≡ told_of false (same_lists t a b)
   same_list_tells a b = told verdict_of verdict_told (told_of false) verdict (same_lists t a b)
 

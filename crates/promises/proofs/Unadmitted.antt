@@ -11,11 +11,11 @@ use Rattle.units.specs.declared.Factors.{Factors}
 use Rattle.units.specs.declared.Kind.{Kind}
 use Rattle.units.specs.declared.Kind.TheVariants.{Base, Derived}
 use Rattle.units.specs.declared.Row.{Row}
-use Rattle.units.specs.Modes.{Table}
+use Rattle.units.specs.declared.Rows.{Rows}
 use Rattle.units.specs.Lists.{checked}
 use Rattle.tables.specs.declared.Slot.{Slot}
 use Rattle.keys.specs.Key.{multiple, key}
-use Rattle.tables.specs.Rows.{Facts, def_of, row_exps, row_scale_lem, worked_out, row_facts, slots, Admission, stopped, admit_on, admit_from, rows_in, admit, known, table}
+use Rattle.tables.specs.Rows.{Facts, def_of, row_exps, row_scale, worked_out, row_facts, slots, Admission, stopped, admit_on, admit_from, rows_of, admit, known, table}
 use Rattle.tables.specs.Rules.{rules_in}
 use Rattle.exponents.proofs.Words.{pick_is}
 use Rattle.conversion.proofs.Refusals.{base_only, fraction_only, scale_is}
@@ -28,7 +28,7 @@ module _ (S : Refusal → Type 0) where
   checked_only shape un rows l = only_unless _ SHAPE shape (only_unless _ UNKNOWN un fine)
 
   -- ---- a table
-  module _ (tab : S TABLE) (shape : S SHAPE) (range : (r : Refusal) → OutOfRange r → S r) (frac : S FRACTION) (t : Table) where
+  module _ (tab : S TABLE) (shape : S SHAPE) (range : (r : Refusal) → OutOfRange r → S r) (frac : S FRACTION) (t : Rows) where
     multiple_only : (m : ℕ) (l : List Exponent) → Only S (multiple m l)
     unfolding multiple
     multiple_only m [] = fine
@@ -39,8 +39,8 @@ module _ (S : Refusal → Type 0) where
     exps_only Base ss js r = fine
     exps_only (Derived f) ss js r = base_only S range _ (def_of r)
 
-    scale_only : (k : Kind) (js : List Facts) (r : Row) → Only S (row_scale_lem k js r)
-    unfolding row_scale_lem
+    scale_only : (k : Kind) (js : List Facts) (r : Row) → Only S (row_scale k js r)
+    unfolding row_scale
     scale_only Base js r = fine
     scale_only (Derived f) js r = only_map _ (fraction_only S frac (scale_is (rules_in t js) one (def_of r)))
 
@@ -63,4 +63,4 @@ module _ (S : Refusal → Type 0) where
 
     pub table_only : Only S (table t)
     unfolding admit
-    table_only = pick_is (λ a. Only S (known a)) (ltb 128 t.len) {a = stopped TABLE []} (only tab) (from_only (slots (rows_in t)) [] (rows_in t))
+    table_only = pick_is (λ a. Only S (known a)) (ltb 128 t.len) {a = stopped TABLE []} (only tab) (from_only (slots (rows_of t)) [] (rows_of t))

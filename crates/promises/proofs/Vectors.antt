@@ -16,7 +16,7 @@ use Rattle.exponents.proofs.Words.{pick_is}
 use Rattle.floats.proofs.Patterns.{bits_fit}
 use Rattle.units.specs.declared.Quantity.{Quantity}
 use Rattle.units.specs.declared.Row.{Row}
-use Rattle.units.specs.Modes.{Table}
+use Rattle.units.specs.declared.Rows.{Rows}
 use Rattle.lent.specs.Lent.{lent_rows_lem}
 use Rattle.wire.specs.Bytes.{le, bytes_of, run_at, run_bytes}
 use Rattle.wire.specs.Records.{quantity_at}
@@ -88,7 +88,7 @@ unfolding knots_in
 knots_fit s = read_at _ s 0
 
 -- of any knots with values that fit
-module _ (t : Table) (ks : List Quantity) (f : (i : ℕ) (q : Quantity) → At ks i q → ValueFits q.value) (u : Rule) where
+module _ (t : Rows) (ks : List Quantity) (f : (i : ℕ) (q : Quantity) → At ks i q → ValueFits q.value) (u : Rule) where
   of_knot : (x : Float) → OfKnot t u.unit ks x → ValueFits x
   of_knot x k =
       let r = k.1 in
@@ -106,7 +106,7 @@ quotient_fit : (rs : List Run) (i : ℕ) (x : Float) → ValueFits (quotient_at 
 unfolding quotient_at
 quotient_fit rs i x = pick_is ValueFits (merged_at rs i) (bits_fit 0) (div-fits binary64 _ _)
 
-quotient_fits : (t : Table) (ks : List Quantity) (u : Rule) (i : ℕ) (x : Float) {o : Outcome Float} → knot.SpanCase t ks u i x o → Holds ValueFits o
+quotient_fits : (t : Rows) (ks : List Quantity) (u : Rule) (i : ℕ) (x : Float) {o : Outcome Float} → knot.SpanCase t ks u i x o → Holds ValueFits o
 quotient_fits t ks u i x (knot.no_vector r e) = moot
 quotient_fits t ks u i x (knot.no_span rs e h) = moot
 quotient_fits t ks u i x (knot.span rs e h) = held (quotient_fit rs i x)

@@ -2,7 +2,7 @@
 use Rattle.std.specs.Prelude.{List, [], ◌∷◌, map, ℕ, pos, negsuc}
 use Rattle.units.specs.declared.Prefix.TheVariants.{Metric}
 use Rattle.units.specs.declared.Row.{Row}
-use Rattle.units.specs.Modes.{Table}
+use Rattle.units.specs.declared.Rows.{Rows}
 use Rattle.lent.specs.Lent.{lent_rows_lem}
 use Rattle.tables.specs.Rows.{places}
 use Rattle.promises.specs.Table.{factor, root, plain, base_row, derived_row, gram, metre, second}
@@ -62,7 +62,7 @@ shop_rows =
     ∷ derived_row 11 0x3ff0_0000_0000_0000 (factor gram (Metric (pos 6)) (pos 1) ∷ root metre (Metric (pos 0)) (negsuc 0) 2 ∷ plain second (negsuc 1) ∷ [])
     ∷ []
 
-unfoldable pub shop : Table
+unfoldable pub shop : Rows
 shop = lent_rows_lem shop_rows
 
 -- ---- sixteen base rows
@@ -73,5 +73,5 @@ pixel = 15
 abbrev pub sixteen_rows : List Row
 sixteen_rows = map (λ rank. base_row rank) (places 0 16)
 
-unfoldable pub sixteen : Table
+unfoldable pub sixteen : Rows
 sixteen = lent_rows_lem sixteen_rows

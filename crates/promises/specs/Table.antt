@@ -7,7 +7,7 @@ use Rattle.units.specs.declared.Prefix.TheVariants.{Metric}
 use Rattle.units.specs.declared.Factor.{Factor}
 use Rattle.units.specs.declared.Kind.TheVariants.{Base, Derived}
 use Rattle.units.specs.declared.Row.{Row}
-use Rattle.units.specs.Modes.{Table}
+use Rattle.units.specs.declared.Rows.{Rows}
 use Rattle.lent.specs.Lent.{lent_rows_lem}
 
 -- a row's number, a prefix and a whole exponent
@@ -67,5 +67,5 @@ rows =
     ∷ derived_row 6 0x3ff0_0000_0000_0000 (factor gram (Metric (pos 3)) (pos 1) ∷ plain metre (pos 1) ∷ plain second (negsuc 1) ∷ [])
     ∷ []
 
-unfoldable pub table : Table
+unfoldable pub table : Rows
 table = lent_rows_lem rows

@@ -7,7 +7,7 @@ use lib.Ieee.{Float}
 use Rattle.exponents.specs.Outcome.{Outcome}
 use Rattle.units.specs.declared.Factor.{Factor}
 use Rattle.units.specs.declared.Factors.{Factors}
-use Rattle.units.specs.Modes.{Table}
+use Rattle.units.specs.declared.Rows.{Rows}
 use Rattle.tables.specs.declared.Items.{Items}
 use Rattle.tables.specs.Rules.{Rules, rules_in}
 use Rattle.tables.specs.Held.{View, Lends, rules_by, Resolved, no_items_lem}
@@ -36,7 +36,7 @@ handed_so : {C : Type 0} (h : Rules Float → List Factor → List Factor → C)
     rules_by v n ≡ R → Lends v n nums dens → Resolved v l fs → Resolved v m gs → Hands h nums dens l m n c → c ≡ h R fs gs
 handed_so h R v n l m fs gs c e lent rl rm p = p v fs gs lent rl rm ∙ ap (λ R. h R fs gs) e
 
-module _ {t : Table} {a b : Factors} {x : Opened} (r : Ready t a b x) (nums : List ℤ) (dens : List ℕ) (tells : Tells t nums dens) {C : Type 0} (c : C) where
+module _ {t : Rows} {a b : Factors} {x : Opened} (r : Ready t a b x) (nums : List ℤ) (dens : List ℕ) (tells : Tells t nums dens) {C : Type 0} (c : C) where
   pub in_table : (h : Rules Float → List Factor → List Factor → C) (l m : Items) (fs gs : List Factor) → Resolved (seen r) l fs → Resolved (seen r) m gs → Hands h nums dens l m x.slots.len c → c ≡ h (rules_in t r.ks) fs gs
   in_table h l m fs gs = handed_so h (rules_in t r.ks) (seen r) x.slots.len l m fs gs c r.rules (lends r nums dens tells)
 
@@ -44,7 +44,7 @@ module _ {t : Table} {a b : Factors} {x : Opened} (r : Ready t a b x) (nums : Li
   pub forward : (h : Rules Float → List Factor → List Factor → C) → Hands h nums dens x.a x.b x.slots.len c → c ≡ h (rules_in t r.ks) r.fs r.gs
   forward h = in_table h x.a x.b r.fs r.gs r.first r.second
 
-module _ {t : Table} {a b : Factors} {x : Opened} (r : Ready t a b x) (nums : List ℤ) (dens : List ℕ) (tells : Tells t nums dens) (y : Float) (c : Converted) where
+module _ {t : Rows} {a b : Factors} {x : Opened} (r : Ready t a b x) (nums : List ℤ) (dens : List ℕ) (tells : Tells t nums dens) (y : Float) (c : Converted) where
   -- the first list to the second
   pub forth : (f : Rules Float → List Factor → List Factor → Float → Outcome Float) → ConvertsBy f nums dens y x.a x.b x.slots.len c → c ≡ converted_of (f (rules_in t r.ks) r.fs r.gs y)
   forth f = forward r nums dens tells c (λ R fs gs. converted_of (f R fs gs y))

@@ -6,7 +6,7 @@ use Rattle.exponents.specs.Outcome.{Outcome, NAN, unless, apply, bind}
 use Rattle.units.specs.declared.Factor.{Factor}
 use Rattle.units.specs.declared.Factors.{Factors}
 use Rattle.units.specs.declared.Quantity.{Quantity}
-use Rattle.units.specs.Modes.{Table}
+use Rattle.units.specs.declared.Rows.{Rows}
 use Rattle.units.specs.Lists.{both}
 use Rattle.tables.specs.Rows.{table}
 use Rattle.tables.specs.Rules.{Rules, rules_in}
@@ -14,7 +14,7 @@ use Rattle.conversion.specs.Conversion.{convert, cancelling}
 use Rattle.values.specs.Quantities.{fresh}
 use Rattle.quantities.specs.Comparisons.{equal_to, ordered}
 
-module _ (t : Table) where
+module _ (t : Rows) where
   -- ---- conversion
 
   -- by f, which converts values between lists by a table's rules

@@ -1,6 +1,6 @@
 // Equality and order of quantities (01, "Conversion, sums, comparison"): the second is converted to the first's list.
 ghost use Rattle.std.specs.Prelude.{◌≡◌};
-ghost use Rattle.units.specs.Modes.{plain, Table, in_mode};
+ghost use Rattle.units.specs.declared.Rows.{Rows as Rowsᵛ};
 ghost use Rattle.canonical.specs.Equality.{verdict_of};
 ghost use Rattle.lists.specs.Held.{Opens};
 ghost use Rattle.quantities.specs.Comparisons as comparisons;
@@ -12,7 +12,7 @@ use canonical::equality::Verdict;
 use conversion::convert::Converted;
 use exponents::refusals::{NAN, UNITS};
 use lists::opening::Opened;
-use units::{Mode, Quantity, Rows};
+use units::{Quantity, Rows};
 
 // The order of two values, or the number of the refusal.
 #[derive(Drop)]
@@ -39,7 +39,7 @@ fn is_equal(x: f64, c: Converted) -> Verdict
 
 // Over the opened table and lists.
 pub fn equal_over(o: Opened, q: Quantity, p: Quantity, nums: &[i32], dens: &[u32]) -> Verdict
-    ensures { (rows : Table) → Opens rows q.unit p.unit o nums.now dens.now → result ≡ verdict_of (spec.equal rows q p) }
+    ensures { (rows : Rowsᵛ) → Opens rows q.unit p.unit o nums.now dens.now → result ≡ verdict_of (spec.equal rows q p) }
 {
     if o.refusal != 0 {
         return Verdict::Refused(o.refusal);
@@ -51,21 +51,15 @@ pub fn equal_over(o: Opened, q: Quantity, p: Quantity, nums: &[i32], dens: &[u32
     is_equal(q.value, c)
 }
 
-pub fn equal_in(mode: Mode, rows: Rows, q: Quantity, p: Quantity) -> Verdict
-    ensures { result ≡ verdict_of (spec.equal (in_mode mode rows) q p) }
+pub fn equal(rows: Rows, q: Quantity, p: Quantity) -> Verdict
+    ensures { result ≡ verdict_of (spec.equal rows q p) }
 {
     let mut nums = [0i32; 2048];
     let mut dens = [1u32; 2048];
     let u = q.unit;
     let w = p.unit;
-    let o = lists::opening::open_lists(mode, rows, u, w, &mut nums, &mut dens);
+    let o = lists::opening::open_lists(rows, u, w, &mut nums, &mut dens);
     equal_over(o, q, p, &nums, &dens)
-}
-
-pub fn equal(rows: Rows, q: Quantity, p: Quantity) -> Verdict
-    ensures { result ≡ verdict_of (spec.equal (in_mode plain rows) q p) }
-{
-    equal_in(units::modes::PLAIN, rows, q, p)
 }
 
 // The order of two values; NAN where one is a NaN.
@@ -87,7 +81,7 @@ fn ordered(x: f64, y: f64) -> Compared
 
 // `partial_cmp_preserve_nan`, over the opened table and lists.
 pub fn compare_over(o: Opened, q: Quantity, p: Quantity, nums: &[i32], dens: &[u32]) -> Compared
-    ensures { (rows : Table) → Opens rows q.unit p.unit o nums.now dens.now → result ≡ compared_of (spec.compare rows q p) }
+    ensures { (rows : Rowsᵛ) → Opens rows q.unit p.unit o nums.now dens.now → result ≡ compared_of (spec.compare rows q p) }
 {
     if o.refusal != 0 {
         return Compared::Refused(o.refusal);
@@ -106,19 +100,13 @@ pub fn compare_over(o: Opened, q: Quantity, p: Quantity, nums: &[i32], dens: &[u
 }
 
 // `partial_cmp_preserve_nan`
-pub fn compare_in(mode: Mode, rows: Rows, q: Quantity, p: Quantity) -> Compared
-    ensures { result ≡ compared_of (spec.compare (in_mode mode rows) q p) }
+pub fn compare(rows: Rows, q: Quantity, p: Quantity) -> Compared
+    ensures { result ≡ compared_of (spec.compare rows q p) }
 {
     let mut nums = [0i32; 2048];
     let mut dens = [1u32; 2048];
     let u = q.unit;
     let w = p.unit;
-    let o = lists::opening::open_lists(mode, rows, u, w, &mut nums, &mut dens);
+    let o = lists::opening::open_lists(rows, u, w, &mut nums, &mut dens);
     compare_over(o, q, p, &nums, &dens)
-}
-
-pub fn compare(rows: Rows, q: Quantity, p: Quantity) -> Compared
-    ensures { result ≡ compared_of (spec.compare (in_mode plain rows) q p) }
-{
-    compare_in(units::modes::PLAIN, rows, q, p)
 }

@@ -4,7 +4,7 @@ ghost use Rattle.exponents.specs.Outcome.{Outcome, apply};
 ghost use Rattle.units.specs.declared.Factor.{Factor as Factorᵛ};
 ghost use Rattle.units.specs.declared.Factors.{Factors as Factorsᵛ};
 ghost use Rattle.units.specs.declared.Quantity.{Quantity as Quantityᵛ};
-ghost use Rattle.units.specs.Modes.{plain, Table, in_mode};
+ghost use Rattle.units.specs.declared.Rows.{Rows as Rowsᵛ};
 ghost use Rattle.tables.specs.Held.{View, Resolved};
 ghost use Rattle.lists.specs.Held.{Opens};
 ghost use Rattle.conversion.specs.Held.{converted_of, rated_by};
@@ -14,7 +14,7 @@ ghost use Rattle.quantities.specs.Calls as spec;
 use conversion::convert::{Converted, Rate};
 use lists::opening::Opened;
 use tables::Items;
-use units::{Factors, Mode, Quantity, Rows};
+use units::{Factors, Quantity, Rows};
 use values::answers;
 use values::answers::Answer;
 
@@ -31,7 +31,7 @@ pub fn in_target(c: Converted, b: Items) -> Answer
 
 // Over the opened table and lists.
 pub fn convert_to_over(o: Opened, q: Quantity, nums: &[i32], dens: &[u32]) -> Answer
-    ensures { (rows : Table) (target : Factorsᵛ) → Opens rows q.unit target o nums.now dens.now → result ≡ answered_of (spec.convert_to rows q target) }
+    ensures { (rows : Rowsᵛ) (target : Factorsᵛ) → Opens rows q.unit target o nums.now dens.now → result ≡ answered_of (spec.convert_to rows q target) }
 {
     if o.refusal != 0 {
         return answers::refused(o.refusal);
@@ -43,27 +43,21 @@ pub fn convert_to_over(o: Opened, q: Quantity, nums: &[i32], dens: &[u32]) -> An
     in_target(c, b)
 }
 
-pub fn convert_to_in(mode: Mode, rows: Rows, q: Quantity, target: Factors) -> Answer
-    ensures { result ≡ answered_of (spec.convert_to (in_mode mode rows) q target) }
+pub fn convert_to(rows: Rows, q: Quantity, target: Factors) -> Answer
+    ensures { result ≡ answered_of (spec.convert_to rows q target) }
 {
     let mut nums = [0i32; 2048];
     let mut dens = [1u32; 2048];
     let u = q.unit;
-    let o = lists::opening::open_lists(mode, rows, u, target, &mut nums, &mut dens);
+    let o = lists::opening::open_lists(rows, u, target, &mut nums, &mut dens);
     convert_to_over(o, q, &nums, &dens)
-}
-
-pub fn convert_to(rows: Rows, q: Quantity, target: Factors) -> Answer
-    ensures { result ≡ answered_of (spec.convert_to (in_mode plain rows) q target) }
-{
-    convert_to_in(units::modes::PLAIN, rows, q, target)
 }
 
 // ---- with factors cancelled on both sides (02, order 3)
 
 // Over the opened table and lists.
 pub fn convert_merged_over(o: Opened, q: Quantity, nums: &[i32], dens: &[u32]) -> Answer
-    ensures { (rows : Table) (target : Factorsᵛ) → Opens rows q.unit target o nums.now dens.now → result ≡ answered_of (spec.convert_merged rows q target) }
+    ensures { (rows : Rowsᵛ) (target : Factorsᵛ) → Opens rows q.unit target o nums.now dens.now → result ≡ answered_of (spec.convert_merged rows q target) }
 {
     if o.refusal != 0 {
         return answers::refused(o.refusal);
@@ -77,7 +71,7 @@ pub fn convert_merged_over(o: Opened, q: Quantity, nums: &[i32], dens: &[u32]) -
 
 // Over the opened table and lists, of any value: what is done for the lists is done once.
 pub fn merged_rate_over(o: Opened, nums: &[i32], dens: &[u32]) -> Rate
-    ensures { (rows : Table) (q : Quantityᵛ) (target : Factorsᵛ) → Opens rows q.unit target o nums.now dens.now → rated_by result q.value ≡ converted_of (spec.merged_value rows q target) }
+    ensures { (rows : Rowsᵛ) (q : Quantityᵛ) (target : Factorsᵛ) → Opens rows q.unit target o nums.now dens.now → rated_by result q.value ≡ converted_of (spec.merged_value rows q target) }
 {
     if o.refusal != 0 {
         return conversion::convert::no_rate(o.refusal);
@@ -88,18 +82,12 @@ pub fn merged_rate_over(o: Opened, nums: &[i32], dens: &[u32]) -> Rate
     conversion::convert::cancelling_rate(a, b, s.len, nums, dens)
 }
 
-pub fn convert_merged_in(mode: Mode, rows: Rows, q: Quantity, target: Factors) -> Answer
-    ensures { result ≡ answered_of (spec.convert_merged (in_mode mode rows) q target) }
+pub fn convert_merged(rows: Rows, q: Quantity, target: Factors) -> Answer
+    ensures { result ≡ answered_of (spec.convert_merged rows q target) }
 {
     let mut nums = [0i32; 2048];
     let mut dens = [1u32; 2048];
     let u = q.unit;
-    let o = lists::opening::open_lists(mode, rows, u, target, &mut nums, &mut dens);
+    let o = lists::opening::open_lists(rows, u, target, &mut nums, &mut dens);
     convert_merged_over(o, q, &nums, &dens)
-}
-
-pub fn convert_merged(rows: Rows, q: Quantity, target: Factors) -> Answer
-    ensures { result ≡ answered_of (spec.convert_merged (in_mode plain rows) q target) }
-{
-    convert_merged_in(units::modes::PLAIN, rows, q, target)
 }

@@ -14,11 +14,10 @@ use Rattle.exponents.specs.declared.Exponent.{Exponent}
 use Rattle.floats.specs.Power.{one, bits_of, raise, power}
 use Rattle.units.specs.declared.Prefix.TheVariants.{Metric}
 use Rattle.units.specs.declared.Factor.{Factor}
-use Rattle.units.specs.Modes.{plain}
 use Rattle.tables.specs.declared.Slot.{Slot}
 use Rattle.keys.specs.Key.{first}
 use Rattle.tables.specs.Lists.{base_at, base}
-use Rattle.tables.specs.Scale.{numbers_in, rooted_in, raise as raisedBy, raised_to, scale_from_lem, size_by}
+use Rattle.tables.specs.Scale.{doubles, raise as raisedBy, raised_to, scale_from_lem, size_by}
 use Rattle.tables.specs.Order.{order}
 use Rattle.tables.specs.Rules.{Rules}
 use Rattle.tables.specs.Rows.{places}
@@ -44,7 +43,7 @@ abbrev rules : Rules Float
 rules = record {
   order = order compare;
   bases = map (λ j r. get_or (exps r) j nought) (places 0 3);
-  numbers = numbers_in plain;
+  numbers = doubles;
   size = size_by (λ r. get_or (one ∷ one ∷ one ∷ float 0x408f_4000_0000_0000 ∷ float 0x404e_0000_0000_0000 ∷ float 0x40ac_2000_0000_0000 ∷ nan ∷ []) r nan);
   alike = eqb;
   is_base = λ r. ltb r 3;
@@ -82,7 +81,7 @@ lists =
     ∷ []
 
 reductions_known : map (λ (r : Row). reduced_as r.0) lists ≡ map (λ (r : Row). r.1) lists
-unfolding lists worked each base_at base places raisedBy raised_to rooted_in scale_from_lem power raise bits_of mul div eq to_bits of_bits drop_if nonzero base_factors reduced reduction
+unfolding lists worked each base_at base places raisedBy raised_to scale_from_lem power raise bits_of mul div eq to_bits of_bits drop_if nonzero base_factors reduced reduction
 reductions_known = refl
 
 -- ---- is the first unit's scale at most the second's?
@@ -102,7 +101,7 @@ pairs =
     ∷ []
 
 smaller_known : map (λ (r : Pair × Outcome Bool). smaller_unit rules r.0.0 r.0.1) pairs ≡ map (λ (r : Pair × Outcome Bool). r.1) pairs
-unfolding pairs worked each base_at base places raisedBy raised_to rooted_in scale_from_lem power raise bits_of mul div eq le of_bits reduced_scale smaller_unit
+unfolding pairs worked each base_at base places raisedBy raised_to scale_from_lem power raise bits_of mul div eq le of_bits reduced_scale smaller_unit
 smaller_known = refl
 
 -- ---- multiples

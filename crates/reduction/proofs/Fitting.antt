@@ -13,7 +13,7 @@ use Rattle.exponents.specs.declared.Fraction.{Fraction}
 use Rattle.exponents.specs.declared.Fraction.TheVariants.{Exact, Refused}
 use Rattle.exponents.proofs.Holds.{take_out, bind_given, bind_refused}
 use Rattle.exponents.proofs.Numbers.{Refuses, exact_given, refused_refuses}
-use Rattle.exponents.proofs.Exact.{nought-times}
+use Rattle.exponents.proofs.Exact.{nought_times}
 use Rattle.exponents.proofs.InRange.{ranged_given, sound}
 use Rattle.exponents.proofs.Equality.{same_is}
 use Rattle.exponents.proofs.Sound.{mul_sound}
@@ -70,7 +70,7 @@ not_all-zero (x ∷ a) h = go (same x nought) h (not_all-zero a)
 
 -- ---- a zero times what keeps its rule
 pub zero-product : (q : Exponent) → faulty q ≡ false → mul? nought q ≡ given nought
-zero-product q h = ap ranged (nought-times q (sound q h).1) ∙ ranged_given nought nought_sound.range
+zero-product q h = ap ranged (nought_times q (sound q h).1) ∙ ranged_given nought nought_sound.range
 
 pub product_skip : (y q : Exponent) → same y nought ≡ true → faulty q ≡ false → Exact y ≡ fraction_of (mul? y q)
 product_skip y q e h = let z = same_is y nought e in ap Exact z ∙ sym (ap (λ (y : Exponent). fraction_of (mul? y q)) z ∙ ap fraction_of (zero-product q h))

@@ -11,7 +11,6 @@ use Rattle.exponents.specs.Fractions.{faulty}
 use Rattle.exponents.proofs.Holds.{bind_given, bind_refused}
 use Rattle.exponents.proofs.Following.{bind_bind}
 use Rattle.units.specs.declared.Factor.{Factor}
-use Rattle.units.specs.Modes.{plain}
 use Rattle.floats.specs.Power.{tally}
 use Rattle.floats.specs.declared.Tally.{Tally}
 use Rattle.units.specs.Prefixes.{factor_of, factor_count}
@@ -22,7 +21,7 @@ use Rattle.tables.specs.declared.Item.{Item}
 use Rattle.tables.specs.declared.Items.{Items}
 use Rattle.tables.specs.declared.scales.Tallied.{Tallied}
 use Rattle.tables.specs.declared.scales.Tallied.TheVariants.{Value, Refused}
-use Rattle.tables.specs.Scale.{Numbers, numbers_in, counting, raised_to, scale_from_lem, size_by, counted_size}
+use Rattle.tables.specs.Scale.{Numbers, doubles, counting, raised_to, scale_from_lem, size_by, counted_size}
 use Rattle.tables.specs.Held.{tallied_of, Within, View, item_of, no_item, pack_items}
 use Rattle.tables.proofs.Terms.{nil_factor, get_map}
 use Rattle.tables.proofs.Scaling.{scale_on, scale_off, scale_end}
@@ -30,7 +29,7 @@ use Rattle.tables.proofs.Forgetting.{more, tally_given, tally_refuses, raised_gi
 
 -- what a read past the end of an array gives: never met
 abbrev pub nil_item : Item
-nil_item = record { factor = nil_factor; scale = nan; place = 0; class = 0; base = false; mode = plain }
+nil_item = record { factor = nil_factor; scale = nan; place = 0; class = 0; base = false }
 
 module _ (v : View) (l : Items) (fs : List Factor) (e : l ≡ pack_items v fs) where
   pub items_len : l.len ≡ length fs
@@ -55,28 +54,28 @@ sizes v = counted_size (size_by v.scale)
 
 -- ---- the scale of a resolved list: one factor more. `it` is the item read, g its prefix's factor; k is counted so far
 module _ (v : View) (fs : List Factor) (i : ℕ) (f : Factor) (h : i < length fs) (it : Item) (is : it ≡ item_of v (get_or fs i f)) (g : Tally) (prefix : g ≡ tally (factor_of it.factor.prefix) (factor_count it.factor.prefix))
-    (start acc : Float) (k : ℕ) (so_far : scale_from_lem (counting (numbers_in v.mode)) (sizes v) (tally acc k) (drop i fs) ≡ scale_from_lem (counting (numbers_in v.mode)) (sizes v) (tally start 0) fs) where
+    (start acc : Float) (k : ℕ) (so_far : scale_from_lem (counting doubles) (sizes v) (tally acc k) (drop i fs) ≡ scale_from_lem (counting doubles) (sizes v) (tally start 0) fs) where
   -- what the code has raised
   abbrev power : Outcome Tally
-  power = raised_to (counting (numbers_in it.mode)) (tally (mul binary64 g.value it.scale) 0) it.factor.exponent
+  power = raised_to (counting doubles) (tally (mul binary64 g.value it.scale) 0) it.factor.exponent
 
-  there : raised_to (counting (numbers_in it.mode)) (tally (mul binary64 g.value it.scale) g.count) it.factor.exponent ≡ raised_to (counting (numbers_in v.mode)) (sizes v (get_or fs i f)) (get_or fs i f).exponent
+  there : raised_to (counting doubles) (tally (mul binary64 g.value it.scale) g.count) it.factor.exponent ≡ raised_to (counting doubles) (sizes v (get_or fs i f)) (get_or fs i f).exponent
   there =
-      ap (λ (g : Tally). raised_to (counting (numbers_in it.mode)) (tally (mul binary64 g.value it.scale) g.count) it.factor.exponent) prefix
-      ∙ ap (λ (it : Item). raised_to (counting (numbers_in it.mode)) (tally (mul binary64 (factor_of it.factor.prefix) it.scale) (factor_count it.factor.prefix)) it.factor.exponent) is
+      ap (λ (g : Tally). raised_to (counting doubles) (tally (mul binary64 g.value it.scale) g.count) it.factor.exponent) prefix
+      ∙ ap (λ (it : Item). raised_to (counting doubles) (tally (mul binary64 (factor_of it.factor.prefix) it.scale) (factor_count it.factor.prefix)) it.factor.exponent) is
 
-  pub item_on : (t : Tally) → tallied_of power ≡ Value t → scale_from_lem (counting (numbers_in v.mode)) (sizes v) (tally (mul binary64 acc t.value) (k + (g.count + t.count))) (drop (i + 1) fs) ≡ scale_from_lem (counting (numbers_in v.mode)) (sizes v) (tally start 0) fs
-  item_on t e = sym (scale_on (counting (numbers_in v.mode)) (sizes v) fs (tally acc k) i f h _ (sym there ∙ raised_given (numbers_in it.mode) _ g.count it.factor.exponent t e)) ∙ so_far
+  pub item_on : (t : Tally) → tallied_of power ≡ Value t → scale_from_lem (counting doubles) (sizes v) (tally (mul binary64 acc t.value) (k + (g.count + t.count))) (drop (i + 1) fs) ≡ scale_from_lem (counting doubles) (sizes v) (tally start 0) fs
+  item_on t e = sym (scale_on (counting doubles) (sizes v) fs (tally acc k) i f h _ (sym there ∙ raised_given doubles _ g.count it.factor.exponent t e)) ∙ so_far
 
-  pub item_off : (n : ℕ) → tallied_of power ≡ Refused n → Refused n ≡ tallied_of (scale_from_lem (counting (numbers_in v.mode)) (sizes v) (tally start 0) fs)
+  pub item_off : (n : ℕ) → tallied_of power ≡ Refused n → Refused n ≡ tallied_of (scale_from_lem (counting doubles) (sizes v) (tally start 0) fs)
   item_off n e =
-      let r = raised_refuses (numbers_in it.mode) _ g.count it.factor.exponent n e in
-      ap Refused (sym r.numbered) ∙ sym (ap tallied_of (sym so_far ∙ scale_off (counting (numbers_in v.mode)) (sizes v) fs (tally acc k) i f h r.why (sym there ∙ r.is)))
+      let r = raised_refuses doubles _ g.count it.factor.exponent n e in
+      ap Refused (sym r.numbered) ∙ sym (ap tallied_of (sym so_far ∙ scale_off (counting doubles) (sizes v) fs (tally acc k) i f h r.why (sym there ∙ r.is)))
 
 pub items_end : (v : View) (fs : List Factor) (i : ℕ) (start acc : Float) (k : ℕ) → length fs ≤ i
-    → scale_from_lem (counting (numbers_in v.mode)) (sizes v) (tally acc k) (drop i fs) ≡ scale_from_lem (counting (numbers_in v.mode)) (sizes v) (tally start 0) fs
-    → Value (tally acc k) ≡ tallied_of (scale_from_lem (counting (numbers_in v.mode)) (sizes v) (tally start 0) fs)
-items_end v fs i start acc k h so_far = sym (ap tallied_of (sym so_far ∙ scale_end (counting (numbers_in v.mode)) (sizes v) fs (tally acc k) i h))
+    → scale_from_lem (counting doubles) (sizes v) (tally acc k) (drop i fs) ≡ scale_from_lem (counting doubles) (sizes v) (tally start 0) fs
+    → Value (tally acc k) ≡ tallied_of (scale_from_lem (counting doubles) (sizes v) (tally start 0) fs)
+items_end v fs i start acc k h so_far = sym (ap tallied_of (sym so_far ∙ scale_end (counting doubles) (sizes v) fs (tally acc k) i h))
 
 -- ---- the scale of joined lists
 module _ {R : Type 0} (N : Numbers R) (size : Factor → R) where
@@ -89,18 +88,18 @@ module _ {R : Type 0} (N : Numbers R) (size : Factor → R) where
 
 module _ (v : View) (fs gs : List Factor) (s : Tally) where
   abbrev first : Outcome Tally
-  first = scale_from_lem (counting (numbers_in v.mode)) (sizes v) s fs
+  first = scale_from_lem (counting doubles) (sizes v) s fs
 
   abbrev whole : Outcome Tally
-  whole = scale_from_lem (counting (numbers_in v.mode)) (sizes v) s (fs ++ gs)
+  whole = scale_from_lem (counting doubles) (sizes v) s (fs ++ gs)
 
   module _ (t : Tally) (e : tallied_of first ≡ Value t) where
     -- the second list's from the first's on, which the code counts anew
     abbrev second : Outcome Tally
-    second = scale_from_lem (counting (numbers_in v.mode)) (sizes v) (tally t.value 0) gs
+    second = scale_from_lem (counting doubles) (sizes v) (tally t.value 0) gs
 
     goes_on : whole ≡ apply (more t.count) second
-    goes_on = scale_join (counting (numbers_in v.mode)) (sizes v) s fs gs ∙ bind_given _ (tally_given first t e) ∙ more_scale (numbers_in v.mode) (sizes v) t.value t.count gs
+    goes_on = scale_join (counting doubles) (sizes v) s fs gs ∙ bind_given _ (tally_given first t e) ∙ more_scale doubles (sizes v) t.value t.count gs
 
     pub joined_on : (u : Tally) → tallied_of second ≡ Value u → Value (tally u.value (t.count + u.count)) ≡ tallied_of whole
     joined_on u d = sym (ap tallied_of (goes_on ∙ ap (apply (more t.count)) (tally_given second u d)))
@@ -109,7 +108,7 @@ module _ (v : View) (fs gs : List Factor) (s : Tally) where
     joined_end n d = let r = tally_refuses second n d in ap Refused (sym r.numbered) ∙ sym (ap tallied_of (goes_on ∙ ap (apply (more t.count)) r.is))
 
   pub joined_off : (n : ℕ) → tallied_of first ≡ Refused n → Refused n ≡ tallied_of whole
-  joined_off n e = let r = tally_refuses first n e in ap Refused (sym r.numbered) ∙ sym (ap tallied_of (scale_join (counting (numbers_in v.mode)) (sizes v) s fs gs ∙ bind_refused _ r.is))
+  joined_off n e = let r = tally_refuses first n e in ap Refused (sym r.numbered) ∙ sym (ap tallied_of (scale_join (counting doubles) (sizes v) s fs gs ∙ bind_refused _ r.is))
 
 -- how much is counted, as code has it
 pub within_value : (n : ℕ) (x : Tallied) (t : Tally) → x ≡ Value t → Within n x → t.count ≤ n

@@ -4,7 +4,7 @@ ghost use Rattle.exponents.specs.Fractions.{faulty as isFaulty};
 ghost use Rattle.units.specs.declared.Factor.{Factor as Factorᵛ};
 ghost use Rattle.tables.specs.Lists.{base};
 ghost use Rattle.floats.specs.Power.{tally};
-ghost use Rattle.tables.specs.Scale.{numbers_in, counting, scale_from_lem, scale, size_by, counted_size};
+ghost use Rattle.tables.specs.Scale.{doubles, counting, scale_from_lem, scale, size_by, counted_size};
 ghost use Rattle.tables.specs.Held.{exps_of, scaled_of, tallied_of, Within, View, view_bases, item_of, Resolved, Lends};
 ghost use Rattle.canonical.specs.Canonical.{same_all, all_nought};
 ghost use Rattle.reduction.specs.Held.{Summed};
@@ -137,7 +137,7 @@ pub fn base_exponents(l: Items, m: Items, n: usize, nums: &[i32], dens: &[u32]) 
 
 // start times the scale of a list, with the multiplications that it took: a factor takes at most 61 for its prefix and 61 for its power.
 pub fn counted_scale(start: f64, l: Items) -> Tallied
-    ensures { Within 1952 result × ((v : View) (fs : List Factorᵛ) → Resolved v l fs → result ≡ tallied_of (scale_from_lem (counting (numbers_in v.mode)) (counted_size (size_by v.scale)) (tally start 0) fs)) }
+    ensures { Within 1952 result × ((v : View) (fs : List Factorᵛ) → Resolved v l fs → result ≡ tallied_of (scale_from_lem (counting doubles) (counted_size (size_by v.scale)) (tally start 0) fs)) }
 {
     let m = capped(l.len);
     let mut acc = start;
@@ -149,8 +149,7 @@ pub fn counted_scale(start: f64, l: Items) -> Tallied
         let p = f.prefix;
         let e = f.exponent;
         let g = units::prefixes::counted_factor(p);
-        let d = it.mode;
-        let x = tables::scales::counted(d, g.value * it.scale, e);
+        let x = tables::scales::counted(g.value * it.scale, e);
         match x {
             Tallied::Value(t) => {
                 acc = acc * t.value;
@@ -170,14 +169,14 @@ pub fn counted_scale(start: f64, l: Items) -> Tallied
 
 // start times the scale of a list.
 pub fn scale_from(start: f64, l: Items) -> Scaled
-    ensures { (v : View) (fs : List Factorᵛ) → Resolved v l fs → result ≡ scaled_of (scale_from_lem (numbers_in v.mode) (size_by v.scale) start fs) }
+    ensures { (v : View) (fs : List Factorᵛ) → Resolved v l fs → result ≡ scaled_of (scale_from_lem doubles (size_by v.scale) start fs) }
 {
     tables::scales::uncounted(counted_scale(start, l))
 }
 
 // The scale of l and then m, joined, with the multiplications that it took.
 pub fn scale_of(l: Items, m: Items) -> Tallied
-    ensures { Within 3904 result × ((v : View) (fs gs : List Factorᵛ) → Resolved v l fs → Resolved v m gs → result ≡ tallied_of (scale (counting (numbers_in v.mode)) (counted_size (size_by v.scale)) (fs ++ gs))) }
+    ensures { Within 3904 result × ((v : View) (fs gs : List Factorᵛ) → Resolved v l fs → Resolved v m gs → result ≡ tallied_of (scale (counting doubles) (counted_size (size_by v.scale)) (fs ++ gs))) }
 {
     let x = counted_scale(1.0, l);
     match x {

@@ -11,8 +11,7 @@ use Rattle.units.specs.declared.Factor.{Factor}
 use Rattle.units.specs.declared.Factors.{Factors}
 use Rattle.units.specs.declared.Candidates.{Candidates}
 use Rattle.units.specs.declared.Quantity.{Quantity}
-use Rattle.units.specs.declared.Mode.{Mode}
-use Rattle.units.specs.Modes.{Table}
+use Rattle.units.specs.declared.Rows.{Rows}
 use Rattle.units.specs.Lists.{pack, checked, both}
 use Rattle.exponents.specs.Words.{pick}
 use Rattle.tables.specs.Rows.{Facts, table, base_rows}
@@ -34,25 +33,25 @@ use Rattle.registry.proofs.Looking.{passed_resolved}
 
 -- ---- one list resolved, beside the empty one
 -- the list that was given, and as code has it
-pub record Alone (m : Mode) (ks : List Facts) (a : Factors) (x : Both) : Type 0 where
+pub record Alone (ks : List Facts) (a : Factors) (x : Both) : Type 0 where
   pub fs : List Factor
   pub is : checked (length ks) a ≡ given fs
-  pub has : Resolved (view_of m ks (fs ++ [])) x.a fs
+  pub has : Resolved (view_of ks (fs ++ [])) x.a fs
 
-module _ (m : Mode) (ks : List Facts) (a none : Factors) (x : Both) (n : none ≡ pack []) (e : x ≡ resolved_of m ks (both (length ks) a none)) where
+module _ (ks : List Facts) (a none : Factors) (x : Both) (n : none ≡ pack []) (e : x ≡ resolved_of ks (both (length ks) a none)) where
   abbrev hand : Outcome (List Factor) → Both
-  hand o = resolved_of m ks (apply alone-list o)
+  hand o = resolved_of ks (apply alone-list o)
 
   handed : x ≡ hand (checked (length ks) a)
-  handed = e ∙ ap (λ (l : Factors). resolved_of m ks (both (length ks) a l)) n ∙ ap (resolved_of m ks) (both_none (length ks) a)
+  handed = e ∙ ap (λ (l : Factors). resolved_of ks (both (length ks) a l)) n ∙ ap (resolved_of ks) (both_none (length ks) a)
 
   pub alone_refuses : (x.refusal ≡ 0 → ⊥) → Refuses (checked (length ks) a) x.refusal
   alone_refuses = struct_refuses hand (λ (y : Both). y.refusal) (λ fs. refl) (λ r. refl) (checked (length ks) a) x handed
 
-  pub alone : x.refusal ≡ 0 → Alone m ks a x
+  pub alone : x.refusal ≡ 0 → Alone ks a x
   alone h =
       let o = struct_answers hand (λ (y : Both). y.refusal) (λ fs. refl) (λ r. refl) (checked (length ks) a) x handed h in
-      record { fs = o.answer; is = o.is; has = passed_resolved (listed o.is) (view_placed m ks (o.answer ++ [])) (first-named o.answer []) (ap (λ (y : Both). y.a) (handed ∙ ap hand o.is)) }
+      record { fs = o.answer; is = o.is; has = passed_resolved (listed o.is) (view_placed ks (o.answer ++ [])) (first-named o.answer []) (ap (λ (y : Both). y.a) (handed ∙ ap hand o.is)) }
 
 -- ---- what is left after the three steps
 pub record Stepped (o : Outcome Amount) (x : Answer) : Type 0 where
@@ -77,7 +76,7 @@ module _ (o : Outcome Amount) (x : Answer) (e : x ≡ answer o) where
       e ∙ ap answer (r.is ∙ sym (bind_refused f r.is))
 
 -- ---- the call
-module _ (t : Table) (q : Quantity) (c : Candidates) where
+module _ (t : Rows) (q : Quantity) (c : Candidates) where
   pub table_stops : (n : ℕ) → Refuses (table t) n → Refuses (full_simplify_with t q c) n
   unfolding full_simplify_with
   table_stops n r = bind_refuses (table t) _ n r

@@ -11,11 +11,11 @@ use Rattle.exponents.specs.declared.Exponent.{Exponent}
 use Rattle.exponents.proofs.Holds.{take_out}
 use Rattle.exponents.proofs.InRange.{keeps_rule}
 use Rattle.units.specs.declared.Factor.{Factor}
-use Rattle.units.specs.Modes.{Table}
+use Rattle.units.specs.declared.Rows.{Rows}
 use Rattle.units.specs.Lists.{pack, factor_fault, checked}
 use Rattle.tables.specs.declared.Slot.{Slot}
 use Rattle.tables.specs.Lists.{base_at, base}
-use Rattle.tables.specs.Rows.{Facts, slots, rows_in, admitted, admit, base_rows}
+use Rattle.tables.specs.Rows.{Facts, slots, rows_of, admitted, admit, base_rows}
 use Rattle.exponents.proofs.Each.{all_imp, each_holds, along_all}
 use Rattle.tables.proofs.Filled.{admit-rows, table-length}
 use Rattle.exponents.specs.Words.{All}
@@ -30,10 +30,10 @@ use Rattle.simplification.proofs.Sounding.{Passes, passed_checked}
 use Rattle.registry.proofs.BaseSlots.{slots-base}
 
 -- ---- the base rows are rows of the table
-base-rows_there : (t : Table) (ks : List Facts) → admit t ≡ admitted ks → All (λ s. s.row < length ks) (base_rows t)
+base-rows_there : (t : Rows) (ks : List Facts) → admit t ≡ admitted ks → All (λ s. s.row < length ks) (base_rows t)
 base-rows_there t ks e =
-    let n = table-length t.mode (slots (rows_in t)) (rows_in t) ks (admit-rows t ks e) in
-    all_imp (base_rows t) (λ s p. omega (arith, p.0)) (slots-base (rows_in t) nil_row)
+    let n = table-length (slots (rows_of t)) (rows_of t) ks (admit-rows t ks e) in
+    all_imp (base_rows t) (λ s p. omega (arith, p.0)) (slots-base (rows_of t) nil_row)
 
 -- ---- base exponents that are worked out keep their rule
 base_sound : (bs : List (ℕ → Exponent)) (l : List Factor) (xs : List Exponent) → base bs l ≡ given xs → All Sound xs
@@ -53,9 +53,9 @@ factor_passes : (rows : ℕ) (s : Slot) (e : Exponent) → s.row < rows → Soun
 unfolding factor_fault
 factor_passes rows s e h k = (keeps_rule e k.range k.low, rw (lt-ltb s.row rows h))
 
-module _ (t : Table) (xs : List Exponent) where
+module _ (t : Rows) (xs : List Exponent) where
   pub base_list_few : length (reduced (base_rows t) xs) ≤ 16
-  base_list_few = omega (arith, reduced-short (base_rows t) xs, slots_few (rows_in t))
+  base_list_few = omega (arith, reduced-short (base_rows t) xs, slots_few (rows_of t))
 
   pub base_list_checked : (ks : List Facts) (bs : List (ℕ → Exponent)) (l : List Factor) → admit t ≡ admitted ks → base bs l ≡ given xs → checked (length ks) (pack (reduced (base_rows t) xs)) ≡ given (reduced (base_rows t) xs)
   base_list_checked ks bs l a e =

@@ -15,11 +15,11 @@ use Rattle.exponents.proofs.Rationals.{value, q≡, norm, norm_low}
 use Rattle.exponents.proofs.Totals.{worth, zero-add, act_zero, total}
 use Rattle.exponents.proofs.Value.{Value}
 use Rattle.units.specs.declared.Factor.{Factor}
-use Rattle.units.specs.Modes.{Table}
+use Rattle.units.specs.declared.Rows.{Rows}
 use Rattle.tables.specs.declared.Slot.{Slot}
 use Rattle.tables.specs.Lists.{base}
 use Rattle.exponents.specs.Words.{pick, All}
-use Rattle.tables.specs.Rows.{Facts, nobody, exp_at, places, self_exp, rows_in, admitted, admit, base_rows}
+use Rattle.tables.specs.Rows.{Facts, nobody, exp_at, places, self_exp, rows_of, admitted, admit, base_rows}
 use Rattle.tables.specs.Rules.{rules_in}
 use Rattle.tables.specs.Held.{no_slot}
 use Rattle.exponents.proofs.Each.{all_at, Along, next, all_imp, along_length}
@@ -73,10 +73,10 @@ unit_worth : worth value unit ≡ value.one
 unit_worth = q≡ (mul-unit (norm unit).1 ∙ norm_low unit unit_low)
 
 -- ---- in an admitted table
-module _ (t : Table) (ks : List Facts) (e : admit t ≡ admitted ks) where
+module _ (t : Rows) (ks : List Facts) (e : admit t ≡ admitted ks) where
   -- a base row has 1 at itself
   pub self_exps : All (λ s. (get_or ks s.row nobody).exps ≡ map (self_exp s.row) (base_rows t)) (base_rows t)
-  self_exps = all_imp (base_rows t) (λ s h. base_exps t.mode (base_rows t) (rows_in t) ks (admit-rows t ks e) nil_row s.row h.0 h.1) (slots-base (rows_in t) nil_row)
+  self_exps = all_imp (base_rows t) (λ s h. base_exps (base_rows t) (rows_of t) ks (admit-rows t ks e) nil_row s.row h.0 h.1) (slots-base (rows_of t) nil_row)
 
   counts : (j : ℕ) → j < length (base_rows t) → All (Counts value unit_worth (exp_at ks j) (get_or (base_rows t) j no_slot)) (base_rows t)
   unfolding exp_at
@@ -90,4 +90,4 @@ module _ (t : Table) (ks : List Facts) (e : admit t ≡ admitted ks) where
       agrees_from value ks l (reduced (base_rows t) xs) 0 (length (base_rows t)) xs a λ j h.
       rw (nat.zero-add j)
       (nonzero_exact value (base_factors (base_rows t) xs) (exp_at ks j)
-      ∙ one_exact value unit_worth (exp_at ks j) (base_rows t) xs j no_slot nought h (along_length a ∙ long_bases (length (base_rows t)) ks) (slots_apart (rows_in t)) (counts j h))
+      ∙ one_exact value unit_worth (exp_at ks j) (base_rows t) xs j no_slot nought h (along_length a ∙ long_bases (length (base_rows t)) ks) (slots_apart (rows_of t)) (counts j h))

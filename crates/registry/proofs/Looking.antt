@@ -7,12 +7,11 @@ use lib.Ieee.{Float}
 use lib.IntN.{ℤ}
 use lib.ListN.{length, get_or}
 use Rattle.exponents.specs.Words.{All}
-use Rattle.exponents.specs.Outcome.{Outcome, given, apply}
+use Rattle.exponents.specs.Outcome.{given, apply}
 use Rattle.exponents.specs.declared.Exponent.{Exponent}
 use Rattle.exponents.proofs.Holds.{bind_given}
 use Rattle.units.specs.declared.Factor.{Factor}
 use Rattle.units.specs.declared.Factors.{Factors}
-use Rattle.units.specs.declared.Mode.{Mode}
 use Rattle.units.specs.Lists.{both}
 use Rattle.tables.specs.declared.Admitted.{Admitted}
 use Rattle.tables.specs.declared.Item.{Item}
@@ -33,7 +32,7 @@ use Rattle.conversion.specs.Conversion.{convert}
 use Rattle.conversion.specs.Held.{converted_of}
 use Rattle.conversion.specs.declared.convert.Converted.{Converted}
 use Rattle.quantities.proofs.Ready.{Converts}
-use Rattle.registry.specs.Held.{plain_view, Tabled, rules_of, Stored, Checks, BaseExps}
+use Rattle.registry.specs.Held.{plain_view, Table, rules_of, Stored, Checks, BaseExps}
 use Rattle.registry.proofs.GivenLists.{Listed, listed}
 
 -- a list that passed is resolved, by any view that places its rows
@@ -42,14 +41,14 @@ module _ {rows : ℕ} {a : Factors} {fs : List Factor} (g : Listed rows a fs) wh
   passed_resolved h n e = record { is = e; short = g.few; shaped = g.shaped; named = n; placed = h }
 
   -- with what is known of its rows
-  pub plain_resolved : (m : Mode) (ks : List Facts) {l : Items} → l ≡ pack_items (plain_view m ks fs) fs → Resolved (plain_view m ks fs) l fs
-  plain_resolved m ks = passed_resolved (record { order = λ u w h k. refl; class = λ r s h k. refl }) (second-named [] fs)
+  pub plain_resolved : (ks : List Facts) {l : Items} → l ≡ pack_items (plain_view ks fs) fs → Resolved (plain_view ks fs) l fs
+  plain_resolved ks = passed_resolved (record { order = λ u w h k. refl; class = λ r s h k. refl }) (second-named [] fs)
 
-pub plain_item : (m : Mode) (ks : List Facts) (l : List Factor) (f : Factor) (x : Float) (y : Bool) → x ≡ scale_at ks f.row → y ≡ (get_or ks f.row nobody).base → ◌≡◌ {A = Item} (record { factor = f; scale = x; place = 0; class = 0; base = y; mode = m }) (item_of (plain_view m ks l) f)
-plain_item m ks l f x y = ap₂ (λ (x : Float) (y : Bool). record { factor = f; scale = x; place = 0; class = 0; base = y; mode = m })
+pub plain_item : (ks : List Facts) (l : List Factor) (f : Factor) (x : Float) (y : Bool) → x ≡ scale_at ks f.row → y ≡ (get_or ks f.row nobody).base → ◌≡◌ {A = Item} (record { factor = f; scale = x; place = 0; class = 0; base = y }) (item_of (plain_view ks l) f)
+plain_item ks l f x y = ap₂ (λ (x : Float) (y : Bool). record { factor = f; scale = x; place = 0; class = 0; base = y })
 
 -- ---- an admitted table
-module _ (tb : Tabled) where
+module _ (tb : Table) where
   pub rows-known : table tb.rows ≡ given tb.known
   rows-known = ap known tb.admits
 
@@ -64,61 +63,53 @@ module _ (tb : Tabled) where
     pub slots-are : t.slots ≡ pack_slots (base_rows tb.rows)
     slots-are = ap (λ (t : Admitted). t.slots) is
 
-    pub stored : (m : Mode) → m ≡ tb.rows.mode → Stored tb m t.len t.slots.len nums dens scales ranks based
-    stored m by = record {
-      by = by;
+    pub stored : Stored tb t.len t.slots.len nums dens scales ranks based
+    stored = record {
       long = ap (λ (t : Admitted). t.len) is;
       bases = slots_len t.slots (base_rows tb.rows) slots-are;
       paged = subst (λ (a : Admission). Pages a nums dens scales ranks based) tb.admits a.pages;
     }
 
-module _ {tb : Tabled} {m : Mode} {len n : ℕ} {nums : List ℤ} {dens : List ℕ} {scales : List Float} {ranks : List ℕ} {based : List Bool} (g : Stored tb m len n nums dens scales ranks based) where
+module _ {tb : Table} {len n : ℕ} {nums : List ℤ} {dens : List ℕ} {scales : List Float} {ranks : List ℕ} {based : List Bool} (g : Stored tb len n nums dens scales ranks based) where
   -- what resolving goes by
   pub reads : {none : Items} → none ≡ no_items_lem → Reads tb.known len none nums dens scales ranks based
   reads e = record { all = g.long; empty = e; paged = g.paged; keyed = keyed tb }
 
-  -- what is read by the mode is read by the table's
-  pub by_view : (fs : List Factor) (l : Items) → l ≡ pack_items (plain_view m tb.known fs) fs → l ≡ pack_items (plain_view tb.rows.mode tb.known fs) fs
-  by_view fs l e = e ∙ ap (λ m. pack_items (plain_view m tb.known fs) fs) g.by
-
-  pub by_lists : (p : Outcome (List Factor × List Factor)) (o : Both) → o ≡ resolved_of m tb.known p → o ≡ resolved_of tb.rows.mode tb.known p
-  by_lists p o e = e ∙ ap (λ m. resolved_of m tb.known p) g.by
-
   -- what the arrays tell of the rows
-  pub lends_rows : (l : List Factor) → Lends (view_of tb.rows.mode tb.known l) n nums dens
+  pub lends_rows : (l : List Factor) → Lends (view_of tb.known l) n nums dens
   lends_rows l =
-      subst (λ n. Lends (view_of tb.rows.mode tb.known l) n nums dens) (sym g.bases)
+      subst (λ n. Lends (view_of tb.known l) n nums dens) (sym g.bases)
       (tells_of tb.rows nums dens scales ranks based (subst (λ (a : Admission). Pages a nums dens scales ranks based) (sym tb.admits) g.paged) tb.known (rows-known tb) l)
 
-  pub lends_plain : (l : List Factor) → Lends (plain_view tb.rows.mode tb.known l) n nums dens
+  pub lends_plain : (l : List Factor) → Lends (plain_view tb.known l) n nums dens
   lends_plain l = let h = lends_rows l in record { lent = h.lent; short = h.short; few = h.few }
 
   -- by way of any list, the rules are the table's
-  pub rules_are : (l : List Factor) → rules_by (view_of tb.rows.mode tb.known l) n ≡ rules_of tb
+  pub rules_are : (l : List Factor) → rules_by (view_of tb.known l) n ≡ rules_of tb
   rules_are l = rules_told tb.rows tb.known l n g.bases
 
-  pub plain-bases : (l : List Factor) → view_bases (plain_view tb.rows.mode tb.known l) n ≡ (rules_of tb).bases
+  pub plain-bases : (l : List Factor) → view_bases (plain_view tb.known l) n ≡ (rules_of tb).bases
   plain-bases l = ap (λ (R : Rules Float). R.bases) (rules_are l)
 
   -- there is one base exponent for each base row
   pub base_sized : (ms : List Factor) (ys : List Exponent) → base (rules_of tb).bases ms ≡ given ys → length ys ≡ length (base_rows tb.rows)
-  base_sized ms ys e = base_long (plain_view tb.rows.mode tb.known []) n ms ys (ap (λ bs. base bs ms) (plain-bases []) ∙ e) ∙ g.bases
+  base_sized ms ys e = base_long (plain_view tb.known []) n ms ys (ap (λ bs. base bs ms) (plain-bases []) ∙ e) ∙ g.bases
 
   -- base exponents as code compares them
   pub bases-same : (ms : List Factor) (ys x y : List Exponent) (b : BaseExps tb y) → base (rules_of tb).bases ms ≡ given ys → x ≡ pack_exps ys → same_all x y ≡ same_all ys b.exps
   bases-same ms ys x y b e p = ap₂ same_all p b.are ∙ packed-same ys b.exps (base_sized ms ys e ∙ sym b.sized)
 
   -- two lists that passed, resolved
-  module _ {l k : Factors} (p : Checks tb l) (q : Checks tb k) (o : Both) (e : o ≡ resolved_of tb.rows.mode tb.known (both (length tb.known) l k)) where
-    pub resolves : o ≡ resolved_of tb.rows.mode tb.known (given (p.factors, q.factors))
+  module _ {l m : Factors} (p : Checks tb l) (q : Checks tb m) (o : Both) (e : o ≡ resolved_of tb.known (both (length tb.known) l m)) where
+    pub resolves : o ≡ resolved_of tb.known (given (p.factors, q.factors))
     unfolding both
-    resolves = e ∙ ap (resolved_of tb.rows.mode tb.known) (bind_given _ p.is ∙ ap (apply (λ gs. (p.factors, gs))) q.is)
+    resolves = e ∙ ap (resolved_of tb.known) (bind_given _ p.is ∙ ap (apply (λ gs. (p.factors, gs))) q.is)
 
     -- a conversion between them is by the table's rules
     pub converts : (x : Float) (c : Converted) → Converts nums dens x o.a o.b n c → c ≡ converted_of (convert (rules_of tb) p.factors q.factors x)
     converts x c h =
         let fs = p.factors ++ q.factors in
-        h (view_of tb.rows.mode tb.known fs) p.factors q.factors (lends_rows fs)
-        (passed_resolved (listed p.is) (view_placed tb.rows.mode tb.known fs) (first-named p.factors q.factors) (ap (λ (o : Both). o.a) resolves))
-        (passed_resolved (listed q.is) (view_placed tb.rows.mode tb.known fs) (second-named p.factors q.factors) (ap (λ (o : Both). o.b) resolves))
+        h (view_of tb.known fs) p.factors q.factors (lends_rows fs)
+        (passed_resolved (listed p.is) (view_placed tb.known fs) (first-named p.factors q.factors) (ap (λ (o : Both). o.a) resolves))
+        (passed_resolved (listed q.is) (view_placed tb.known fs) (second-named p.factors q.factors) (ap (λ (o : Both). o.b) resolves))
         ∙ ap (λ R. converted_of (convert R p.factors q.factors x)) (rules_are fs)

@@ -14,7 +14,7 @@ use Rattle.exponents.proofs.Rationals.{value}
 use Rattle.units.specs.declared.Factor.{Factor}
 use Rattle.units.specs.declared.Factors.{Factors}
 use Rattle.units.specs.declared.Candidates.{Candidates}
-use Rattle.units.specs.Modes.{Table}
+use Rattle.units.specs.declared.Rows.{Rows}
 use Rattle.units.specs.Lists.{checked}
 use Rattle.tables.specs.declared.Slot.{Slot}
 use Rattle.tables.specs.Lists.{base}
@@ -161,7 +161,7 @@ module _ (R : Rules Float) (now : Amount) where
         fine
 
 -- ---- in an admitted table, whatever the candidates and the value
-module _ (t : Table) (ks : List Facts) (k : table t ≡ given ks) (ms : List (List Factor)) (now : Amount) where
+module _ (t : Rows) (ks : List Facts) (k : table t ≡ given ks) (ms : List (List Factor)) (now : Amount) where
   -- THEOREM: the base exponents of what is left are kept
   pub registered_keeps : Holds (λ a. Agree value (rules_in t ks).bases now.1 a.1) (registered (rules_in t ks) (base_rows t) ms now)
   registered_keeps = keeps_by (rules_in t ks) now (base_rows t) ms (reduced_agrees t ks (admits t ks k) now.1)

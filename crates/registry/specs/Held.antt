@@ -7,8 +7,7 @@ use Rattle.units.specs.declared.Factor.{Factor}
 use Rattle.units.specs.declared.Factors.{Factors}
 use Rattle.units.specs.declared.Candidates.{Candidates}
 use Rattle.units.specs.declared.Quantity.{Quantity}
-use Rattle.units.specs.declared.Mode.{Mode}
-use Rattle.units.specs.Modes.{Table}
+use Rattle.units.specs.declared.Rows.{Rows}
 use Rattle.units.specs.Lists.{checked}
 use Rattle.tables.specs.Rows.{Facts, nobody, scale_at, admitted, admit, base_rows}
 use Rattle.tables.specs.Order.{order}
@@ -20,14 +19,13 @@ use Rattle.registry.specs.Registry.{Turn, wins, stays, candidate_lists}
 use Rattle.registry.specs.declared.Choice.{Choice}
 
 -- what is known of rows but for their order: all stand at one place
-abbrev pub plain_view : Mode → List Facts → List Factor → View
-plain_view m ks l = record {
+abbrev pub plain_view : List Facts → List Factor → View
+plain_view ks l = record {
   order = order (λ r s. compare 0 0);
   alike = λ r s. true;
   exps = λ r. pack_exps (get_or ks r nobody).exps;
   scale = scale_at ks;
   base = λ r. (get_or ks r nobody).base;
-  mode = m;
   among = l;
   place = λ r. 0;
   class = λ r. 0;
@@ -36,40 +34,39 @@ plain_view m ks l = record {
 -- ---- what is given
 
 -- an admitted table, and what is known of its rows
-pub record Tabled : Type 0 where
-  pub rows : Table
+pub record Table : Type 0 where
+  pub rows : Rows
   pub known : List Facts
   pub admits : admit rows ≡ admitted known
 
 -- the rules by which it is read
-abbrev pub rules_of : Tabled → Rules Float
+abbrev pub rules_of : Table → Rules Float
 rules_of t = rules_in t.rows t.known
 
--- it is read by the mode m and held in five arrays: `len` rows, n of them base
-pub record Stored (t : Tabled) (m : Mode) (len n : ℕ) (nums : List ℤ) (dens : List ℕ) (scales : List Float) (ranks : List ℕ) (based : List Bool) : Type 0 where
-  pub by : m ≡ t.rows.mode
+-- it is held in five arrays: `len` rows, n of them base
+pub record Stored (t : Table) (len n : ℕ) (nums : List ℤ) (dens : List ℕ) (scales : List Float) (ranks : List ℕ) (based : List Bool) : Type 0 where
   pub long : len ≡ length t.known
   pub bases : n ≡ length (base_rows t.rows)
   pub paged : Paged t.known nums dens scales ranks based
 
 -- a list that passes its check
-pub record Checks (t : Tabled) (l : Factors) : Type 0 where
+pub record Checks (t : Table) (l : Factors) : Type 0 where
   pub factors : List Factor
   pub is : checked (length t.known) l ≡ given factors
 
 -- candidates that pass theirs
-pub record Offers (t : Tabled) (c : Candidates) : Type 0 where
+pub record Offers (t : Table) (c : Candidates) : Type 0 where
   pub lists : List (List Factor)
   pub are : candidate_lists (length t.known) c ≡ given lists
 
 -- what the three steps left: its list passes again
-pub record Left (t : Tabled) (rest : Quantity) : Type 0 where
+pub record Left (t : Table) (rest : Quantity) : Type 0 where
   pub amount : Amount
   pub is : rest ≡ quantity_of amount
   pub passes : checked (length t.known) rest.unit ≡ given amount.1
 
 -- base exponents, one for each base row
-pub record BaseExps (t : Tabled) (xs : List Exponent) : Type 0 where
+pub record BaseExps (t : Table) (xs : List Exponent) : Type 0 where
   pub exps : List Exponent
   pub are : xs ≡ pack_exps exps
   pub sized : length exps ≡ length (base_rows t.rows)

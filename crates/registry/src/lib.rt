@@ -3,8 +3,8 @@
 ghost use Rattle.std.specs.Prelude.{◌≡◌, false, List, ℕ, ◌≤◌, length};
 ghost use Rattle.exponents.specs.Outcome.{given, refusal_of};
 ghost use Rattle.units.specs.declared.Factor.{Factor as Factorᵛ};
+ghost use Rattle.units.specs.declared.Rows.{Rows as Rowsᵛ};
 ghost use Rattle.units.specs.Lists.{checked, pack};
-ghost use Rattle.units.specs.Modes.{plain, Table, in_mode};
 ghost use Rattle.tables.specs.Rows.{Facts, base_rows};
 ghost use Rattle.tables.specs.Held.{Room, Sized, Basic, pack_items, Admits};
 ghost use Rattle.canonical.specs.Equality.{verdict_of};
@@ -14,7 +14,7 @@ ghost use Rattle.values.specs.Quantities.{fresh, no_quantity, answered_of};
 ghost use Rattle.simplification.specs.Held.{handed};
 ghost use Rattle.simplification.specs.Steps.{Amount, quantity_of};
 ghost use Rattle.registry.specs.Registry as spec;
-ghost use Rattle.registry.specs.Held.{plain_view, Tabled, rules_of, Stored, Checks, Offers, Left, BaseExps, choice_of};
+ghost use Rattle.registry.specs.Held.{plain_view, Table, rules_of, Stored, Checks, Offers, Left, BaseExps, choice_of};
 ghost use Rattle.registry.specs.Calls as calls;
 
 use canonical::equality::Verdict;
@@ -25,7 +25,7 @@ use exponents::refusals::SHAPE;
 use reduction::{bases, reduce};
 use tables::scales::Scaled;
 use tables::{Admitted, Item, Items};
-use units::{Candidates, Factors, Mode, Quantity, Rows};
+use units::{Candidates, Factors, Quantity, Rows};
 use values::answers;
 use values::answers::Answer;
 
@@ -59,9 +59,9 @@ fn candidates_fault(rows: usize, c: Candidates) -> u32
 }
 
 // A checked list with what is known of its rows, but for their order: enough for base exponents and scale.
-fn plain(mode: Mode, scales: &[f64], based: &[bool], l: Factors) -> Items
+fn plain(scales: &[f64], based: &[bool], l: Factors) -> Items
     requires { (length scales.now ≡ 128) × (length based.now ≡ 128) }
-    ensures { (ks : List Facts) (fs : List Factorᵛ) → length ks ≤ 128 → Sized ks scales.now → Basic ks based.now → checked (length ks) l ≡ given fs → result ≡ pack_items (plain_view mode ks fs) fs }
+    ensures { (ks : List Facts) (fs : List Factorᵛ) → length ks ≤ 128 → Sized ks scales.now → Basic ks based.now → checked (length ks) l ≡ given fs → result ≡ pack_items (plain_view ks fs) fs }
 {
     let n = bases::capped(l.len);
     let mut o = tables::no_items();
@@ -78,7 +78,6 @@ fn plain(mode: Mode, scales: &[f64], based: &[bool], l: Factors) -> Items
             place: 0,
             class: 0,
             base: based[row],
-            mode: mode,
         };
         o.len = i + 1;
         i += 1;
@@ -116,7 +115,6 @@ fn close(s: f64, t: f64) -> bool
 
 // Whether the list m has fewer factors than `most`, the base exponents xs and the scale s.
 fn fits(
-    mode: Mode,
     n: usize,
     nums: &[i32],
     dens: &[u32],
@@ -129,12 +127,12 @@ fn fits(
     s: f64,
 ) -> Verdict
     requires { Room nums.now dens.now scales.now ranks.now based.now }
-    ensures { (tb : Tabled) (len : ℕ) (k : Checks tb m) (x : BaseExps tb xs) → Stored tb mode len n nums.now dens.now scales.now ranks.now based.now → result ≡ verdict_of (spec.fitting (rules_of tb) most x.exps s k.factors) }
+    ensures { (tb : Table) (len : ℕ) (k : Checks tb m) (x : BaseExps tb xs) → Stored tb len n nums.now dens.now scales.now ranks.now based.now → result ≡ verdict_of (spec.fitting (rules_of tb) most x.exps s k.factors) }
 {
     if most <= m.len {
         return Verdict::No;
     }
-    let l = plain(mode, scales, based, m);
+    let l = plain(scales, based, m);
     let b = bases::base_of(l, n, nums, dens);
     if b.refusal != 0 {
         return Verdict::Refused(b.refusal);
@@ -156,7 +154,6 @@ fn fits(
 
 // v of the list l in the list m, both checked.
 fn converted(
-    mode: Mode,
     len: usize,
     n: usize,
     nums: &[i32],
@@ -169,10 +166,10 @@ fn converted(
     m: Factors,
 ) -> Converted
     requires { Room nums.now dens.now scales.now ranks.now based.now }
-    ensures { (tb : Tabled) (p : Checks tb l) (q : Checks tb m) → Stored tb mode len n nums.now dens.now scales.now ranks.now based.now → result ≡ converted_of (conversions.convert (rules_of tb) p.factors q.factors v) }
+    ensures { (tb : Table) (p : Checks tb l) (q : Checks tb m) → Stored tb len n nums.now dens.now scales.now ranks.now based.now → result ≡ converted_of (conversions.convert (rules_of tb) p.factors q.factors v) }
 {
     let none = tables::no_items();
-    let o = resolution::resolve(mode, len, nums, dens, scales, ranks, based, l, m, none);
+    let o = resolution::resolve(len, nums, dens, scales, ranks, based, l, m, none);
     if o.refusal != 0 {
         return Converted::Refused(o.refusal);
     }
@@ -235,7 +232,6 @@ fn of_list(v: f64, m: Factors) -> Quantity
 
 // The list m after the best so far. `rest` has the base exponents xs and the scale s.
 fn turn(
-    mode: Mode,
     len: usize,
     n: usize,
     nums: &[i32],
@@ -250,15 +246,13 @@ fn turn(
     s: f64,
 ) -> Choice
     requires { Room nums.now dens.now scales.now ranks.now based.now }
-    ensures { (tb : Tabled) (a : Left tb rest) (b : Amount) (k : Checks tb m) (x : BaseExps tb xs) → best ≡ quantity_of b → Stored tb mode len n nums.now dens.now scales.now ranks.now based.now → result ≡ choice_of (spec.turn (rules_of tb) x.exps s a.amount b k.factors) }
+    ensures { (tb : Table) (a : Left tb rest) (b : Amount) (k : Checks tb m) (x : BaseExps tb xs) → best ≡ quantity_of b → Stored tb len n nums.now dens.now scales.now ranks.now based.now → result ≡ choice_of (spec.turn (rules_of tb) x.exps s a.amount b k.factors) }
 {
     let l = rest.unit;
-    let f = fits(mode, n, nums, dens, scales, ranks, based, m, l.len, xs, s);
+    let f = fits(n, nums, dens, scales, ranks, based, m, l.len, xs, s);
     match f {
         Verdict::Yes => {
-            let y = converted(
-                mode, len, n, nums, dens, scales, ranks, based, rest.value, l, m,
-            );
+            let y = converted(len, n, nums, dens, scales, ranks, based, rest.value, l, m);
             let Converted::Value(z) = y else {
                 return no_choice(convert::refusal_of(y));
             };
@@ -279,7 +273,6 @@ fn turn(
 
 // The candidates in turn, the best being `rest` at first.
 fn chosen(
-    mode: Mode,
     len: usize,
     n: usize,
     nums: &[i32],
@@ -293,7 +286,7 @@ fn chosen(
     c: Candidates,
 ) -> Answer
     requires { Room nums.now dens.now scales.now ranks.now based.now }
-    ensures { (tb : Tabled) (a : Left tb rest) (k : Offers tb c) (x : BaseExps tb xs) → Stored tb mode len n nums.now dens.now scales.now ranks.now based.now → result ≡ handed (spec.chosen (rules_of tb) x.exps s a.amount a.amount k.lists) }
+    ensures { (tb : Table) (a : Left tb rest) (k : Offers tb c) (x : BaseExps tb xs) → Stored tb len n nums.now dens.now scales.now ranks.now based.now → result ≡ handed (spec.chosen (rules_of tb) x.exps s a.amount a.amount k.lists) }
 {
     let mut o = chose(rest, false);
     let mut i: usize = 0;
@@ -304,9 +297,7 @@ fn chosen(
         let x = c.at[i];
         let m = x.unit;
         let b = o.best;
-        o = turn(
-            mode, len, n, nums, dens, scales, ranks, based, rest, b, m, xs, s,
-        );
+        o = turn(len, n, nums, dens, scales, ranks, based, rest, b, m, xs, s);
         if o.refusal != 0 {
             return answers::refused(o.refusal);
         }
@@ -335,7 +326,6 @@ fn is_single(l: Factors) -> bool
 
 // What is left, simplified once more.
 fn registered(
-    mode: Mode,
     t: Admitted,
     nums: &[i32],
     dens: &[u32],
@@ -346,7 +336,7 @@ fn registered(
     c: Candidates,
 ) -> Answer
     requires { Room nums.now dens.now scales.now ranks.now based.now }
-    ensures { (tb : Tabled) (a : Left tb rest) (k : Offers tb c) → mode ≡ tb.rows.mode → Admits tb.rows t nums.now dens.now scales.now ranks.now based.now → result ≡ handed (spec.registered (rules_of tb) (base_rows tb.rows) k.lists a.amount) }
+    ensures { (tb : Table) (a : Left tb rest) (k : Offers tb c) → Admits tb.rows t nums.now dens.now scales.now ranks.now based.now → result ≡ handed (spec.registered (rules_of tb) (base_rows tb.rows) k.lists a.amount) }
 {
     let l = rest.unit;
     if l.len < 2 {
@@ -355,7 +345,7 @@ fn registered(
             refusal: 0,
         };
     }
-    let p = plain(mode, scales, based, l);
+    let p = plain(scales, based, l);
     let slots = t.slots;
     let b = bases::base_of(p, slots.len, nums, dens);
     if b.refusal != 0 {
@@ -368,7 +358,7 @@ fn registered(
             let u = reduce::base_factors(slots, e);
             if is_single(u) & near_one(s) {
                 let z = converted(
-                    mode, t.len, slots.len, nums, dens, scales, ranks, based, rest.value, l, u,
+                    t.len, slots.len, nums, dens, scales, ranks, based, rest.value, l, u,
                 );
                 let Converted::Value(w) = z else {
                     return answers::refused(convert::refusal_of(z));
@@ -376,16 +366,15 @@ fn registered(
                 return answers::with_mark(w, u, true);
             }
             chosen(
-                mode, t.len, slots.len, nums, dens, scales, ranks, based, rest, e, s, c,
+                t.len, slots.len, nums, dens, scales, ranks, based, rest, e, s, c,
             )
         }
         Scaled::Refused(r) => answers::refused(r),
     }
 }
 
-// Over a table admitted by a mode.
+// Over an admitted table.
 pub fn full_simplify_with_over(
-    mode: Mode,
     t: Admitted,
     nums: &[i32],
     dens: &[u32],
@@ -396,7 +385,7 @@ pub fn full_simplify_with_over(
     c: Candidates,
 ) -> Answer
     requires { Room nums.now dens.now scales.now ranks.now based.now }
-    ensures { (rows : Table) → mode ≡ rows.mode → Admits rows t nums.now dens.now scales.now ranks.now based.now → result ≡ answered_of (calls.full_simplify_with rows q c) }
+    ensures { (rows : Rowsᵛ) → Admits rows t nums.now dens.now scales.now ranks.now based.now → result ≡ answered_of (calls.full_simplify_with rows q c) }
 {
     if t.refusal != 0 {
         return answers::refused(t.refusal);
@@ -404,9 +393,7 @@ pub fn full_simplify_with_over(
     let u = q.unit;
     let none = units::lists::empty();
     let blank = tables::no_items();
-    let o = resolution::resolve(
-        mode, t.len, nums, dens, scales, ranks, based, u, none, blank,
-    );
+    let o = resolution::resolve(t.len, nums, dens, scales, ranks, based, u, none, blank);
     if o.refusal != 0 {
         return answers::refused(o.refusal);
     }
@@ -422,14 +409,14 @@ pub fn full_simplify_with_over(
             return s;
         }
         let rest = s.quantity;
-        return registered(mode, t, nums, dens, scales, ranks, based, rest, c);
+        return registered(t, nums, dens, scales, ranks, based, rest, c);
     }
     let l = lists::opening::factors_of(a);
     answers::with_mark(q.value, l, false)
 }
 
-pub fn full_simplify_with_in(mode: Mode, rows: Rows, q: Quantity, c: Candidates) -> Answer
-    ensures { result ≡ answered_of (calls.full_simplify_with (in_mode mode rows) q c) }
+pub fn full_simplify_with(rows: Rows, q: Quantity, c: Candidates) -> Answer
+    ensures { result ≡ answered_of (calls.full_simplify_with rows q c) }
 {
     let mut nums = [0i32; 2048];
     let mut dens = [1u32; 2048];
@@ -437,7 +424,6 @@ pub fn full_simplify_with_in(mode: Mode, rows: Rows, q: Quantity, c: Candidates)
     let mut ranks = [0u16; 128];
     let mut based = [false; 128];
     let t = tables::admission::admit(
-        mode,
         rows,
         &mut nums,
         &mut dens,
@@ -445,11 +431,5 @@ pub fn full_simplify_with_in(mode: Mode, rows: Rows, q: Quantity, c: Candidates)
         &mut ranks,
         &mut based,
     );
-    full_simplify_with_over(mode, t, &nums, &dens, &scales, &ranks, &based, q, c)
-}
-
-pub fn full_simplify_with(rows: Rows, q: Quantity, c: Candidates) -> Answer
-    ensures { result ≡ answered_of (calls.full_simplify_with (in_mode plain rows) q c) }
-{
-    full_simplify_with_in(units::modes::PLAIN, rows, q, c)
+    full_simplify_with_over(t, &nums, &dens, &scales, &ranks, &based, q, c)
 }

@@ -16,7 +16,6 @@ use Rattle.exponents.proofs.Holds.{Holds, held, take_out, holds_unless}
 use Rattle.exponents.proofs.InRange.{or_left, or_right}
 use Rattle.exponents.proofs.Numbers.{refuses}
 use Rattle.units.specs.declared.Factor.{Factor}
-use Rattle.units.specs.declared.Mode.{Mode}
 use Rattle.units.specs.declared.Factors.{Factors}
 use Rattle.units.specs.Lists.{no_factor, list_of, some, unknown, checked, both}
 use Rattle.units.proofs.Laws.{listed, none_at}
@@ -159,10 +158,10 @@ named_none ks l rows keys = record { few = omega arith; row = λ j h. absurd (om
 
 -- ---- the answer
 
-pub not_resolved : (m : Mode) (ks : List Facts) (o : Outcome (List Factor × List Factor)) (n : ℕ) → n ≡ refusal_of o → (n ≡ 0 → ⊥) → unresolved n ≡ resolved_of m ks o
-not_resolved m ks o n e h = let r = refuses o n e h in ap unresolved (sym r.numbered) ∙ sym (ap (resolved_of m ks) r.is)
+pub not_resolved : (ks : List Facts) (o : Outcome (List Factor × List Factor)) (n : ℕ) → n ≡ refusal_of o → (n ≡ 0 → ⊥) → unresolved n ≡ resolved_of ks o
+not_resolved ks o n e h = let r = refuses o n e h in ap unresolved (sym r.numbered) ∙ sym (ap (resolved_of ks) r.is)
 
 -- x and y are the parts of the join
-pub resolved_by : {rows : ℕ} {a b : Factors} → Lists rows a b → (m : Mode) (ks : List Facts) (x y : Items) → x ≡ pack_items (view_of m ks (join a b)) (list_of a) → y ≡ pack_items (view_of m ks (join a b)) (list_of b) →
-    ◌≡◌ {A = Resolved} (record { a = x; b = y; refusal = 0 }) (resolved_of m ks (both rows a b))
-resolved_by {rows} {a} {b} g m ks x y p q = ap₂ (λ (x y : Items). record { a = x; b = y; refusal = 0 }) p q ∙ sym (ap (resolved_of m ks) (both_pass rows a b g.passed))
+pub resolved_by : {rows : ℕ} {a b : Factors} → Lists rows a b → (ks : List Facts) (x y : Items) → x ≡ pack_items (view_of ks (join a b)) (list_of a) → y ≡ pack_items (view_of ks (join a b)) (list_of b) →
+    ◌≡◌ {A = Resolved} (record { a = x; b = y; refusal = 0 }) (resolved_of ks (both rows a b))
+resolved_by {rows} {a} {b} g ks x y p q = ap₂ (λ (x y : Items). record { a = x; b = y; refusal = 0 }) p q ∙ sym (ap (resolved_of ks) (both_pass rows a b g.passed))

@@ -11,7 +11,6 @@ use lib.ListN.{length, take, drop, set, get_or}
 use lib.Seq.{take-suc, length-take-le, get_or-take, get_or-drop}
 use Rattle.floats.specs.Power.{one}
 use Rattle.units.specs.declared.Factor.{Factor}
-use Rattle.units.specs.declared.Mode.{Mode}
 use Rattle.units.specs.declared.Factors.{Factors}
 use Rattle.units.specs.Lists.{no_factor, list_of}
 use Rattle.tables.specs.Rows.{Facts, nobody, scale_at}
@@ -47,11 +46,11 @@ module _ {ks : List Facts} {fs : List Factor} {n : ℕ} {l : Factors} {s : ℕ} 
   row_there : get_or rows (s + i) 0 < length ks
   row_there = rw (g.counts.named.row (s + i) k) (g.counts.named.known (s + i) k)
 
-  pub item_of_lem : (m : Mode) (d : Factor) (c : Count) (x : Item) → c ≡ count_of ks fs (get_or rows (s + i) 0) → x ≡ item_by m (get_or scales (get_or rows (s + i) 0) one) (get_or based (get_or rows (s + i) 0) false) (get_or l.at i d) c → x ≡ item_of (view_of m ks fs) (get_or (list_of l) i d)
+  pub item_of_lem : (d : Factor) (c : Count) (x : Item) → c ≡ count_of ks fs (get_or rows (s + i) 0) → x ≡ item_by (get_or scales (get_or rows (s + i) 0) one) (get_or based (get_or rows (s + i) 0) false) (get_or l.at i d) c → x ≡ item_of (view_of ks fs) (get_or (list_of l) i d)
   unfolding scale_at
-  item_of_lem m d c x e q =
+  item_of_lem d c x e q =
       q
-      ∙ ap₂ (λ (scale : Float) (base : Bool). item_by m scale base (get_or l.at i d) c) (g.sized _ row_there) (g.basic _ row_there)
-      ∙ ap (item_by m (scale_at ks (get_or rows (s + i) 0)) (get_or ks (get_or rows (s + i) 0) nobody).base (get_or l.at i d)) e
-      ∙ ap (λ r. item_by m (scale_at ks r) (get_or ks r nobody).base (get_or l.at i d) (count_of ks fs r)) (row_of d)
-      ∙ ap (item_of (view_of m ks fs)) (sym (get_or-take l.len l.at i d h))
+      ∙ ap₂ (λ (scale : Float) (base : Bool). item_by scale base (get_or l.at i d) c) (g.sized _ row_there) (g.basic _ row_there)
+      ∙ ap (item_by (scale_at ks (get_or rows (s + i) 0)) (get_or ks (get_or rows (s + i) 0) nobody).base (get_or l.at i d)) e
+      ∙ ap (λ r. item_by (scale_at ks r) (get_or ks r nobody).base (get_or l.at i d) (count_of ks fs r)) (row_of d)
+      ∙ ap (item_of (view_of ks fs)) (sym (get_or-take l.len l.at i d h))

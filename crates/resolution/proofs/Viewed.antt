@@ -13,13 +13,12 @@ use Rattle.exponents.specs.Outcome.{given}
 use Rattle.exponents.specs.declared.Exponent.{Exponent}
 use Rattle.exponents.specs.Fractions.{nought}
 use Rattle.units.specs.declared.Factor.{Factor}
-use Rattle.units.specs.declared.Mode.{Mode}
-use Rattle.units.specs.Modes.{Table}
+use Rattle.units.specs.declared.Rows.{Rows}
 use Rattle.keys.specs.Key.{other, first}
-use Rattle.tables.specs.Scale.{numbers_in, size_by}
+use Rattle.tables.specs.Scale.{doubles, size_by}
 use Rattle.keys.specs.Orders.{is_eq, then, pairs}
 use Rattle.tables.specs.Order.{code, key_order, order_in}
-use Rattle.tables.specs.Rows.{Facts, nobody, exp_at, scale_at, places, bases, slots, rows_in, table, base_rows}
+use Rattle.tables.specs.Rows.{Facts, nobody, exp_at, scale_at, places, bases, slots, rows_of, table, base_rows}
 use Rattle.tables.specs.Rules.{rules_in}
 use Rattle.tables.specs.Held.{pack_exps, view_at, view_bases, rules_by, view_of, before, Stands, Placed}
 use Rattle.tables.proofs.Alike.{table_sound}
@@ -53,25 +52,25 @@ class_told ks l r s p q = go (key_order ks r s) refl
     go Ordering.eq e = eq-eqb _ _ (one_class ks l r s e)
     go Ordering.gt e = ne_eqb _ _ λ h. let y = one_key ks l r s p q h in let z : ◌≡◌ {A = ℕ} 0 1 = cc in omega arith
 
-pub view_placed : (m : Mode) (ks : List Facts) (l : List Factor) → Placed (view_of m ks l)
-view_placed m ks l = record {
+pub view_placed : (ks : List Facts) (l : List Factor) → Placed (view_of ks l)
+view_placed ks l = record {
   order = λ u w p q. ap (λ o. then o (pairs (code u.prefix) (code w.prefix))) (place_tells ks l u.row w.row p q);
   class = class_told ks l;
 }
 
 -- ---- base exponents: what is padded to sixteen places reads as zero past the end
 
-module _ (m : Mode) (ks : List Facts) (l : List Factor) where
-  view_at_lem : (j r : ℕ) → j < 16 → view_at (view_of m ks l) j r ≡ exp_at ks j r
+module _ (ks : List Facts) (l : List Factor) where
+  view_at_lem : (j r : ℕ) → j < 16 → view_at (view_of ks l) j r ≡ exp_at ks j r
   unfolding exp_at pack_exps
   view_at_lem j r h = padded 16 (get_or ks r nobody).exps j nought h
 
-  view_places : (p n : ℕ) → p + n ≤ 16 → map (view_at (view_of m ks l)) (places p n) ≡ map (exp_at ks) (places p n)
+  view_places : (p n : ℕ) → p + n ≤ 16 → map (view_at (view_of ks l)) (places p n) ≡ map (exp_at ks) (places p n)
   unfolding places
   view_places p zero h = refl
   view_places p (suc n) h = ap₂ (λ (b : ℕ → Exponent) (m : List (ℕ → Exponent)). b ∷ m) (λ i r. view_at_lem p r (omega arith) i) (view_places (suc p) n (omega arith))
 
-  view_bases_lem : (n : ℕ) → n ≤ 16 → view_bases (view_of m ks l) n ≡ bases n ks
+  view_bases_lem : (n : ℕ) → n ≤ 16 → view_bases (view_of ks l) n ≡ bases n ks
   view_bases_lem n h = view_places 0 n (omega arith)
 
 -- nor do the zeros make a difference to the first
@@ -87,13 +86,13 @@ first-packed es = padded_first (16 - length es) es
 
 -- ---- THE RULES of a table by way of lists are its own
 
-pub rules_told : (t : Table) (ks : List Facts) (l : List Factor) (n : ℕ) → n ≡ length (base_rows t) → rules_by (view_of t.mode ks l) n ≡ rules_in t ks
+pub rules_told : (t : Rows) (ks : List Facts) (l : List Factor) (n : ℕ) → n ≡ length (base_rows t) → rules_by (view_of ks l) n ≡ rules_in t ks
 rules_told t ks l n e =
-    let told = view_bases_lem t.mode ks l n (omega (arith, slots_few (rows_in t))) ∙ ap (λ n. bases n ks) e in
+    let told = view_bases_lem ks l n (omega (arith, slots_few (rows_of t))) ∙ ap (λ n. bases n ks) e in
     λ i. record {
       order = order_in ks;
       bases = told i;
-      numbers = numbers_in t.mode;
+      numbers = doubles;
       size = size_by (scale_at ks);
       alike = λ r s. is_eq (key_order ks r s);
       is_base = λ r. (get_or ks r nobody).base;
@@ -102,7 +101,7 @@ rules_told t ks l n e =
 
 -- ---- an admitted table's rows have at most sixteen base exponents
 
-module _ (t : Table) (ks : List Facts) (k : table t ≡ given ks) where
+module _ (t : Rows) (ks : List Facts) (k : table t ≡ given ks) where
   few_exps : (r : ℕ) → length (get_or ks r nobody).exps ≤ 16
   few_exps r = go (ltb r (length ks)) refl
     where
@@ -110,13 +109,13 @@ module _ (t : Table) (ks : List Facts) (k : table t ≡ given ks) where
       go true e =
           let h : r < length ks = ltb-true r (length ks) e in
           let rows = admit-rows t ks (admits t ks k) in
-          let there : r < length (rows_in t) = omega (arith, table-length t.mode (slots (rows_in t)) (rows_in t) ks rows) in
-          let long = (table_sound t.mode (slots (rows_in t)) (rows_in t) ks rows nil_row r there).sized in
-          omega (arith, slots_few (rows_in t))
+          let there : r < length (rows_of t) = omega (arith, table-length (slots (rows_of t)) (rows_of t) ks rows) in
+          let long = (table_sound (slots (rows_of t)) (rows_of t) ks rows nil_row r there).sized in
+          omega (arith, slots_few (rows_of t))
       go false e =
           let h : length ks ≤ r = ltb-false r (length ks) e in
           let none = ap (λ (k : Facts). length k.exps) (get_or-eq_default ks nobody {n = r} h) in
           omega arith
 
-  pub view_short : (l : List Factor) (r : ℕ) → length ((view_of t.mode ks l).exps r) ≤ 16
+  pub view_short : (l : List Factor) (r : ℕ) → length ((view_of ks l).exps r) ≤ 16
   view_short l r = let long = long_exps (get_or ks r nobody).exps (few_exps r) in omega arith

@@ -4,7 +4,6 @@ use Prim.Native.Nat.{ℕ, ◌-◌, ◌*◌, ◌≤◌, ◌<◌, Ordering}
 use Rattle.exponents.specs.Outcome.{Outcome, given, refused, number}
 use Rattle.units.specs.declared.Factor.{Factor}
 use Rattle.units.specs.declared.Factors.{Factors}
-use Rattle.units.specs.declared.Mode.{Mode}
 use Rattle.units.specs.Lists.{no_factor, list_of}
 use Rattle.keys.specs.Orders.{then}
 use Rattle.keys.specs.Held.{key_at}
@@ -35,9 +34,9 @@ abbrev pub unresolved : ℕ → Resolved
 unresolved n = record { a = no_items_lem; b = no_items_lem; refusal = n }
 
 -- both lists are seen by way of their join
-abbrev pub resolved_of : Mode → List Facts → Outcome (List Factor × List Factor) → Resolved
-resolved_of m ks (given p) = record { a = pack_items (view_of m ks (p.0 ++ p.1)) p.0; b = pack_items (view_of m ks (p.0 ++ p.1)) p.1; refusal = 0 }
-resolved_of m ks (refused r) = unresolved (number r)
+abbrev pub resolved_of : List Facts → Outcome (List Factor × List Factor) → Resolved
+resolved_of ks (given p) = record { a = pack_items (view_of ks (p.0 ++ p.1)) p.0; b = pack_items (view_of ks (p.0 ++ p.1)) p.1; refusal = 0 }
+resolved_of ks (refused r) = unresolved (number r)
 
 -- ---- what code gathers on the way
 
@@ -81,5 +80,5 @@ count_by c k rest = record { place = tally (is_less (then k rest)) c.place; clas
 abbrev pub count_of : List Facts → List Factor → ℕ → Count
 count_of ks l r = record { place = before (row_order ks) l r; class = before (key_order ks) l r }
 
-abbrev pub item_by : Mode → Float → Bool → Factor → Count → Item
-item_by m scale base f c = record { factor = f; scale = scale; place = c.place; class = c.class; base = base; mode = m }
+abbrev pub item_by : Float → Bool → Factor → Count → Item
+item_by scale base f c = record { factor = f; scale = scale; place = c.place; class = c.class; base = base }

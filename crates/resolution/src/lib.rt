@@ -16,7 +16,7 @@ use exponents::refusals::TABLE;
 use keys::order;
 use keys::order::Sense;
 use tables::{Item, Items, pages};
-use units::{Factor, Factors, Mode};
+use units::{Factor, Factors};
 
 // Two resolved lists, or empty ones beside the number of the refusal.
 #[derive(Drop)]
@@ -97,9 +97,9 @@ fn refused(refusal: u32, none: Items) -> Resolved
 }
 
 // A factor with what is known of its row, r.
-fn item(mode: Mode, scales: &[f64], based: &[bool], r: usize, f: Factor, c: Count) -> Item
+fn item(scales: &[f64], based: &[bool], r: usize, f: Factor, c: Count) -> Item
     requires { (r < length scales.now) × (r < length based.now) }
-    ensures { result ≡ item_by mode (get_or scales.now r one) (get_or based.now r false) f c }
+    ensures { result ≡ item_by (get_or scales.now r one) (get_or based.now r false) f c }
 {
     Item {
         factor: f,
@@ -107,13 +107,11 @@ fn item(mode: Mode, scales: &[f64], based: &[bool], r: usize, f: Factor, c: Coun
         place: c.place,
         class: c.class,
         base: based[r],
-        mode: mode,
     }
 }
 
 // The factors of l, which stand from place `from` on among the n that are named, each with its place and class among all.
 fn items(
-    mode: Mode,
     l: Factors,
     from: usize,
     n: usize,
@@ -125,7 +123,7 @@ fn items(
     none: Items,
 ) -> Items
     requires { (l.len ≤ 16) × (from + l.len ≤ n) × (length scales.now ≡ 128) × (length ranks.now ≡ 128) × (length based.now ≡ 128) × Space n named.now keys.now }
-    ensures { (ks : List Facts) (fs : List Factorᵛ) → Fills ks fs n l from none named.now keys.now scales.now ranks.now based.now → result ≡ pack_items (view_of mode ks fs) (list_of l) }
+    ensures { (ks : List Facts) (fs : List Factorᵛ) → Fills ks fs n l from none named.now keys.now scales.now ranks.now based.now → result ≡ pack_items (view_of ks fs) (list_of l) }
 {
     let mut o = none;
     let m = l.len;
@@ -134,7 +132,7 @@ fn items(
         let f = l.at[i];
         let c = count_of(keys, named, ranks, from + i, n);
         let r = named[from + i];
-        o.at[i] = item(mode, scales, based, r as usize, f, c);
+        o.at[i] = item(scales, based, r as usize, f, c);
         o.len = i + 1;
         i += 1;
     }
@@ -153,9 +151,8 @@ fn put_key(keys: &mut [i64], at: usize, k: [i64; 16])
     }
 }
 
-// Two lists of a table of `len` rows, read by a mode; `none` is the empty one, which is filled, or handed back with a refusal. An admitted table has at most 128, and each has a key: these two tests only spare callers a proof of it.
+// Two lists of a table of `len` rows; `none` is the empty one, which is filled, or handed back with a refusal. An admitted table has at most 128, and each has a key: these two tests only spare callers a proof of it.
 pub fn resolve(
-    mode: Mode,
     len: usize,
     nums: &[i32],
     dens: &[u32],
@@ -167,7 +164,7 @@ pub fn resolve(
     none: Items,
 ) -> Resolved
     requires { Room nums.now dens.now scales.now ranks.now based.now }
-    ensures { (ks : List Facts) → Reads ks len none nums.now dens.now scales.now ranks.now based.now → result ≡ resolved_of mode ks (both (length ks) a b) }
+    ensures { (ks : List Facts) → Reads ks len none nums.now dens.now scales.now ranks.now based.now → result ≡ resolved_of ks (both (length ks) a b) }
 {
     if 128 < len {
         return refused(TABLE, none);
@@ -193,8 +190,8 @@ pub fn resolve(
         put_key(&mut keys, i * 16, k);
         i += 1;
     }
-    let x = items(mode, a, 0, m, &keys, &named, scales, ranks, based, none);
-    let y = items(mode, b, n, m, &keys, &named, scales, ranks, based, none);
+    let x = items(a, 0, m, &keys, &named, scales, ranks, based, none);
+    let y = items(b, n, m, &keys, &named, scales, ranks, based, none);
     Resolved {
         a: x,
         b: y,

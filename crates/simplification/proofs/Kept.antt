@@ -13,7 +13,7 @@ use Rattle.floats.specs.Power.{one}
 use Rattle.floats.specs.Values.{is_zero}
 use Rattle.units.specs.declared.Factor.{Factor}
 use Rattle.units.specs.declared.Factors.{Factors}
-use Rattle.units.specs.Modes.{Table}
+use Rattle.units.specs.declared.Rows.{Rows}
 use Rattle.units.specs.Lists.{checked}
 use Rattle.tables.specs.Rows.{Facts, table}
 use Rattle.exponents.proofs.Each.{all_imp}
@@ -79,7 +79,7 @@ module _ (R : Rules Float) (O : Total R.order) where
 
 -- ---- in an admitted table
 
-module _ (t : Table) (ks : List Facts) (k : table t ≡ given ks) where
+module _ (t : Rows) (ks : List Facts) (k : table t ≡ given ks) where
   abbrev rules : Rules Float
   rules = rules_in t ks
 

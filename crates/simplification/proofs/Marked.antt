@@ -5,7 +5,7 @@ use mathlib.Core.List.{List}
 use Rattle.exponents.specs.Outcome.{Outcome, given, apply}
 use Rattle.units.specs.declared.Factor.{Factor}
 use Rattle.units.specs.declared.Quantity.{Quantity}
-use Rattle.units.specs.Modes.{Table}
+use Rattle.units.specs.declared.Rows.{Rows}
 use Rattle.exponents.specs.Words.{pick}
 use Rattle.tables.specs.Rows.{Facts}
 use Rattle.lists.proofs.Checks.{Call1}
@@ -14,7 +14,7 @@ use Rattle.tables.specs.Rules.{rules_in}
 use Rattle.simplification.specs.Steps.{quantity_of, simplify}
 use Rattle.simplification.specs.Calls.{full_simplify}
 
-module _ (t : Table) (q : Quantity) where
+module _ (t : Rows) (q : Quantity) where
   -- what the call does with the list, under a mark
   abbrev pub work : Bool → List Facts → List Factor → Outcome Quantity
   work m ks fs = pick m (apply quantity_of (simplify (rules_in t ks) q.value fs)) (given (made false q.value fs))

@@ -11,7 +11,7 @@ use Rattle.exponents.proofs.Numbers.{Refuses}
 use Rattle.floats.specs.Values.{is_zero}
 use Rattle.units.specs.declared.Factor.{Factor}
 use Rattle.units.specs.declared.Quantity.{Quantity}
-use Rattle.units.specs.Modes.{Table}
+use Rattle.units.specs.declared.Rows.{Rows}
 use Rattle.tables.specs.declared.Items.{Items}
 use Rattle.exponents.specs.Words.{pick}
 use Rattle.tables.specs.Rows.{Facts, base_rows}
@@ -55,7 +55,7 @@ abbrev Adds : List ℤ → List ℕ → Bool → Float → Float → Items → I
 Adds nums dens minus y z a b n o = (v : View) (fs gs : List Factor) → Lends v n nums dens → Resolved v a fs → Resolved v b gs → o ≡ answered_of (nonzero_sum (rules_by v n) minus y z fs gs)
 
 -- ---- the sum of two quantities, as it goes on once their lists are opened
-module _ (t : Table) (minus : Bool) (lead : List Factor → Quantity) (q p : Quantity) where
+module _ (t : Rows) (minus : Bool) (lead : List Factor → Quantity) (q p : Quantity) where
   abbrev sum_in : List Facts → List Factor → List Factor → Outcome Quantity
   sum_in ks fs gs =
       pick (is_zero q.value) (given (lead gs))
@@ -63,7 +63,7 @@ module _ (t : Table) (minus : Bool) (lead : List Factor → Quantity) (q p : Qua
       (nonzero_sum (rules_in t ks) minus q.value p.value fs gs))
 
   module _ (x : Opened) where
-    pub sum_stopped : x ≡ opened_of t.mode (base_rows t) (opening t q.unit p.unit) → (x.refusal ≡ 0 → ⊥) → Refuses (summed t minus lead q p) x.refusal
+    pub sum_stopped : x ≡ opened_of (base_rows t) (opening t q.unit p.unit) → (x.refusal ≡ 0 → ⊥) → Refuses (summed t minus lead q p) x.refusal
     unfolding summed
     sum_stopped e h = stopped t q.unit p.unit x e sum_in h
 

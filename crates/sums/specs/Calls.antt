@@ -6,14 +6,14 @@ use Rattle.exponents.specs.Outcome.{Outcome, given, bind}
 use Rattle.floats.specs.Values.{is_zero}
 use Rattle.units.specs.declared.Factor.{Factor}
 use Rattle.units.specs.declared.Quantity.{Quantity}
-use Rattle.units.specs.Modes.{Table}
+use Rattle.units.specs.declared.Rows.{Rows}
 use Rattle.units.specs.Lists.{both}
 use Rattle.tables.specs.Rows.{table}
 use Rattle.tables.specs.Rules.{rules_in}
 use Rattle.values.specs.Quantities.{made, fresh}
 use Rattle.sums.specs.Sums.{nonzero_sum}
 
-module _ (t : Table) where
+module _ (t : Rows) where
   -- self zero gives `lead`, else other zero gives self, mark kept
   unfoldable pub summed : Bool → (List Factor → Quantity) → Quantity → Quantity → Outcome Quantity
   summed minus lead q p =

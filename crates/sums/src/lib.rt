@@ -2,7 +2,7 @@
 // Public: `add`, `subtract`, and their halves `.._over` for a table and lists that are opened already. None asks anything of its caller.
 ghost use Rattle.std.specs.Prelude.{◌≡◌, List};
 ghost use Rattle.units.specs.declared.Factor.{Factor as Factorᵛ};
-ghost use Rattle.units.specs.Modes.{plain, Table, in_mode};
+ghost use Rattle.units.specs.declared.Rows.{Rows as Rowsᵛ};
 ghost use Rattle.tables.specs.Held.{View, Resolved, Lends, rules_by};
 ghost use Rattle.lists.specs.Held.{Opens};
 ghost use Rattle.values.specs.Quantities.{answered_of};
@@ -14,7 +14,7 @@ use conversion::convert::Converted;
 use lists::opening::Opened;
 use reduction::reduce::Smaller;
 use tables::Items;
-use units::{Mode, Quantity, Rows};
+use units::{Quantity, Rows};
 use values::answers;
 use values::answers::Answer;
 
@@ -84,7 +84,7 @@ fn nonzero_sum(
 
 // Over the opened table and lists.
 pub fn add_over(o: Opened, q: Quantity, p: Quantity, nums: &[i32], dens: &[u32]) -> Answer
-    ensures { (rows : Table) → Opens rows q.unit p.unit o nums.now dens.now → result ≡ answered_of (spec.add rows q p) }
+    ensures { (rows : Rowsᵛ) → Opens rows q.unit p.unit o nums.now dens.now → result ≡ answered_of (spec.add rows q p) }
 {
     if o.refusal != 0 {
         return answers::refused(o.refusal);
@@ -103,26 +103,20 @@ pub fn add_over(o: Opened, q: Quantity, p: Quantity, nums: &[i32], dens: &[u32])
     nonzero_sum(false, q.value, p.value, a, b, s.len, nums, dens)
 }
 
-pub fn add_in(mode: Mode, rows: Rows, q: Quantity, p: Quantity) -> Answer
-    ensures { result ≡ answered_of (spec.add (in_mode mode rows) q p) }
+pub fn add(rows: Rows, q: Quantity, p: Quantity) -> Answer
+    ensures { result ≡ answered_of (spec.add rows q p) }
 {
     let mut nums = [0i32; 2048];
     let mut dens = [1u32; 2048];
     let u = q.unit;
     let w = p.unit;
-    let o = lists::opening::open_lists(mode, rows, u, w, &mut nums, &mut dens);
+    let o = lists::opening::open_lists(rows, u, w, &mut nums, &mut dens);
     add_over(o, q, p, &nums, &dens)
-}
-
-pub fn add(rows: Rows, q: Quantity, p: Quantity) -> Answer
-    ensures { result ≡ answered_of (spec.add (in_mode plain rows) q p) }
-{
-    add_in(units::modes::PLAIN, rows, q, p)
 }
 
 // Zero minus a quantity is that negated, with a fresh mark. Over the opened table and lists.
 pub fn subtract_over(o: Opened, q: Quantity, p: Quantity, nums: &[i32], dens: &[u32]) -> Answer
-    ensures { (rows : Table) → Opens rows q.unit p.unit o nums.now dens.now → result ≡ answered_of (spec.subtract rows q p) }
+    ensures { (rows : Rowsᵛ) → Opens rows q.unit p.unit o nums.now dens.now → result ≡ answered_of (spec.subtract rows q p) }
 {
     if o.refusal != 0 {
         return answers::refused(o.refusal);
@@ -141,19 +135,13 @@ pub fn subtract_over(o: Opened, q: Quantity, p: Quantity, nums: &[i32], dens: &[
     nonzero_sum(true, q.value, p.value, a, b, s.len, nums, dens)
 }
 
-pub fn subtract_in(mode: Mode, rows: Rows, q: Quantity, p: Quantity) -> Answer
-    ensures { result ≡ answered_of (spec.subtract (in_mode mode rows) q p) }
+pub fn subtract(rows: Rows, q: Quantity, p: Quantity) -> Answer
+    ensures { result ≡ answered_of (spec.subtract rows q p) }
 {
     let mut nums = [0i32; 2048];
     let mut dens = [1u32; 2048];
     let u = q.unit;
     let w = p.unit;
-    let o = lists::opening::open_lists(mode, rows, u, w, &mut nums, &mut dens);
+    let o = lists::opening::open_lists(rows, u, w, &mut nums, &mut dens);
     subtract_over(o, q, p, &nums, &dens)
-}
-
-pub fn subtract(rows: Rows, q: Quantity, p: Quantity) -> Answer
-    ensures { result ≡ answered_of (spec.subtract (in_mode plain rows) q p) }
-{
-    subtract_in(units::modes::PLAIN, rows, q, p)
 }

@@ -13,31 +13,30 @@ use Rattle.exponents.proofs.Holds.{take_out}
 use Rattle.exponents.proofs.Numbers.{answers, refuses}
 use Rattle.units.specs.declared.Kind.{Kind}
 use Rattle.units.specs.declared.Kind.TheVariants.{Base, Derived}
-use Rattle.units.specs.declared.Mode.{Mode}
 use Rattle.units.specs.declared.Row.{Row}
-use Rattle.units.specs.Modes.{Table}
+use Rattle.units.specs.declared.Rows.{Rows}
 use Rattle.tables.specs.declared.Slot.{Slot}
 use Rattle.tables.specs.declared.Slots.{Slots}
 use Rattle.tables.specs.declared.Admitted.{Admitted}
 use Rattle.exponents.specs.Words.{pick}
-use Rattle.tables.specs.Rows.{Facts, slots, is_base, count, row_facts, Admission, admitted, stopped, admit_on, admit_from, rows_in, admit}
+use Rattle.tables.specs.Rows.{Facts, slots, is_base, count, row_facts, Admission, admitted, stopped, admit_on, admit_from, rows_of, admit}
 use Rattle.tables.specs.Held.{counted, pack_slots, Blank, Paged, Pages, RowIn, admitted_of}
 use Rattle.tables.proofs.Filled as filled
 use Rattle.tables.proofs.Entering.{few}
 use Rattle.tables.proofs.Storing.{paged_none}
 
 -- what is known of the rows before i
-pub record Admitting (m : Mode) (ss : List Slot) (rs : List Row) (bases i : ℕ) (nums : List ℤ) (dens : List ℕ) (scales : List Float) (ranks : List ℕ) (based : List Bool) : Type 0 where
+pub record Admitting (ss : List Slot) (rs : List Row) (bases i : ℕ) (nums : List ℤ) (dens : List ℕ) (scales : List Float) (ranks : List ℕ) (based : List Bool) : Type 0 where
   pub ks : List Facts
   pub at : i ≡ length ks
   pub bases-are : bases ≡ count ks
   pub few : bases ≤ 16
   pub paged : Paged ks nums dens scales ranks based
-  pub left : admit_from m ss ks (drop i rs) ≡ admit_from m ss [] rs
+  pub left : admit_from ss ks (drop i rs) ≡ admit_from ss [] rs
 
-pub admitting_none : (m : Mode) (ss : List Slot) (rs : List Row) (nums : List ℤ) (dens : List ℕ) (scales : List Float) (ranks : List ℕ) (based : List Bool) → Blank 0 nums dens → Admitting m ss rs 0 0 nums dens scales ranks based
+pub admitting_none : (ss : List Slot) (rs : List Row) (nums : List ℤ) (dens : List ℕ) (scales : List Float) (ranks : List ℕ) (based : List Bool) → Blank 0 nums dens → Admitting ss rs 0 0 nums dens scales ranks based
 unfolding count
-admitting_none m ss rs nums dens scales ranks based b = record { ks = []; at = refl; bases-are = refl; few = omega arith; paged = paged_none nums dens scales ranks based b; left = refl }
+admitting_none ss rs nums dens scales ranks based b = record { ks = []; at = refl; bases-are = refl; few = omega arith; paged = paged_none nums dens scales ranks based b; left = refl }
 
 -- ---- how many base rows there are with one row more
 count-more : (ks : List Facts) (k : Facts) → count (ks ++ (k ∷ [])) ≡ pick k.base (count ks + 1) (count ks)
@@ -71,51 +70,51 @@ abbrev pub Tells : List Slot → Admission → Admitted → List ℤ → List �
 Tells ss a r nums dens scales ranks based = (r ≡ admitted_of ss a) × Pages a nums dens scales ranks based
 
 -- the admission of a table of at most 128 rows is that of its rows
-pub within : (t : Table) → t.rows.len ≤ 128 → admit t ≡ admit_from t.mode (slots (rows_in t)) [] (rows_in t)
+pub within : (rows : Rows) → rows.len ≤ 128 → admit rows ≡ admit_from (slots (rows_of rows)) [] (rows_of rows)
 unfolding admit
-within t h = rw (le-ltb 128 t.rows.len h)
+within rows h = rw (le-ltb 128 rows.len h)
 
-pub over : (t : Table) → 128 < t.rows.len → admit t ≡ stopped TABLE []
+pub over : (rows : Rows) → 128 < rows.len → admit rows ≡ stopped TABLE []
 unfolding admit
-over t h = rw (lt-ltb 128 t.rows.len h)
+over rows h = rw (lt-ltb 128 rows.len h)
 
 -- ---- the loop
-module _ (m : Mode) (ss : List Slot) (rs : List Row) (bases i : ℕ) (nums : List ℤ) (dens : List ℕ) (scales : List Float) (ranks : List ℕ) (based : List Bool)
-    (a : Admitting m ss rs bases i nums dens scales ranks based) where
+module _ (ss : List Slot) (rs : List Row) (bases i : ℕ) (nums : List ℤ) (dens : List ℕ) (scales : List Float) (ranks : List ℕ) (based : List Bool)
+    (a : Admitting ss rs bases i nums dens scales ranks based) where
   -- all rows are in
-  pub admitting_end : length rs ≤ i → (o : Slots) → o ≡ pack_slots ss → Tells ss (admit_from m ss [] rs) (record { slots = o; len = i; refusal = 0 }) nums dens scales ranks based
+  pub admitting_end : length rs ≤ i → (o : Slots) → o ≡ pack_slots ss → Tells ss (admit_from ss [] rs) (record { slots = o; len = i; refusal = 0 }) nums dens scales ranks based
   unfolding admit_from
   admitting_end h o e =
-      let done : admit_from m ss [] rs ≡ admitted a.ks = sym a.left ∙ ap (admit_from m ss a.ks) (drop_of_length-le rs {i = i} h) in
+      let done : admit_from ss [] rs ≡ admitted a.ks = sym a.left ∙ ap (admit_from ss a.ks) (drop_of_length-le rs {i = i} h) in
       (ap₂ (λ (s : Slots) (n : ℕ). record { slots = s; len = n; refusal = 0 }) e a.at ∙ sym (ap (admitted_of ss) done), subst (λ x. Pages x nums dens scales ranks based) (sym done) a.paged)
 
   -- row i, what the code has answered of it, and the arrays after it
   module _ (r : Row) (here : drop i rs ≡ r ∷ drop (i + 1) rs) (n : ℕ) (nums' : List ℤ) (dens' : List ℕ) (scales' : List Float) (ranks' : List ℕ) (based' : List Bool)
-      (row_in : RowIn m ss a.ks r n nums' dens' scales' ranks' based') where
-    next : admit_from m ss [] rs ≡ admit_on (row_facts m ss a.ks r) a.ks (λ k. admit_from m ss (a.ks ++ (k ∷ [])) (drop (i + 1) rs))
+      (row_in : RowIn ss a.ks r n nums' dens' scales' ranks' based') where
+    next : admit_from ss [] rs ≡ admit_on (row_facts ss a.ks r) a.ks (λ k. admit_from ss (a.ks ++ (k ∷ [])) (drop (i + 1) rs))
     unfolding admit_from
-    next = sym a.left ∙ ap (admit_from m ss a.ks) here
+    next = sym a.left ∙ ap (admit_from ss a.ks) here
 
     -- the row's refusal is the table's
-    pub admitting_off : (n ≡ 0 → ⊥) → Tells ss (admit_from m ss [] rs) (record { slots = pack_slots []; len = i; refusal = n }) nums' dens' scales' ranks' based'
+    pub admitting_off : (n ≡ 0 → ⊥) → Tells ss (admit_from ss [] rs) (record { slots = pack_slots []; len = i; refusal = n }) nums' dens' scales' ranks' based'
     admitting_off h =
-        let q = refuses (row_facts m ss a.ks r) n row_in.0 h in
-        let is : admit_from m ss [] rs ≡ stopped q.why a.ks = next ∙ ap (λ o. admit_on o a.ks (λ k. admit_from m ss (a.ks ++ (k ∷ [])) (drop (i + 1) rs))) q.is in (
+        let q = refuses (row_facts ss a.ks r) n row_in.0 h in
+        let is : admit_from ss [] rs ≡ stopped q.why a.ks = next ∙ ap (λ o. admit_on o a.ks (λ k. admit_from ss (a.ks ++ (k ∷ [])) (drop (i + 1) rs))) q.is in (
           ap₂ (λ (m n : ℕ). record { slots = pack_slots []; len = m; refusal = n }) a.at (sym q.numbered) ∙ sym (ap (admitted_of ss) is),
           subst (λ x. Pages x nums' dens' scales' ranks' based') (sym is) tt,
         )
 
-    pub admitting_on : n ≡ 0 → (b : ℕ) → b ≡ counted r.kind bases → Admitting m ss rs b (i + 1) nums' dens' scales' ranks' based'
+    pub admitting_on : n ≡ 0 → (m : ℕ) → m ≡ counted r.kind bases → Admitting ss rs m (i + 1) nums' dens' scales' ranks' based'
     unfolding admit_from
-    admitting_on z b e =
-        let g = answers (row_facts m ss a.ks r) n row_in.0 z in
+    admitting_on z m e =
+        let g = answers (row_facts ss a.ks r) n row_in.0 z in
         let k = g.answer in
-        let fact = take_out (filled.known m ss a.ks r) g.is in
+        let fact = take_out (filled.known ss a.ks r) g.is in
         record {
           ks = a.ks ++ (k ∷ []);
           at = simp length-append (omega (arith, a.at));
           bases-are = e ∙ counted_is r.kind bases ∙ ap₂ (λ (t : Bool) (n : ℕ). pick t (n + 1) n) (sym fact.base) a.bases-are ∙ sym (count-more a.ks k);
-          few = subst (λ (n : ℕ). n ≤ 16) (sym e) (few_more r.kind bases a.few (λ base. subst (λ (n : ℕ). n ≤ 15) (sym a.bases-are) (few m ss a.ks r k g.is base)));
+          few = subst (λ (n : ℕ). n ≤ 16) (sym e) (few_more r.kind bases a.few (λ b. subst (λ (n : ℕ). n ≤ 15) (sym a.bases-are) (few ss a.ks r k g.is b)));
           paged = row_in.1 k g.is;
-          left = sym (next ∙ ap (λ o. admit_on o a.ks (λ k. admit_from m ss (a.ks ++ (k ∷ [])) (drop (i + 1) rs))) g.is);
+          left = sym (next ∙ ap (λ o. admit_on o a.ks (λ k. admit_from ss (a.ks ++ (k ∷ [])) (drop (i + 1) rs))) g.is);
         }

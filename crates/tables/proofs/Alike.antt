@@ -7,7 +7,6 @@ use Rattle.exponents.specs.Outcome.{given}
 use Rattle.exponents.specs.Fractions.{mul}
 use Rattle.exponents.proofs.Exact.{Low}
 use Rattle.exponents.proofs.Holds.{take_out}
-use Rattle.units.specs.declared.Mode.{Mode}
 use Rattle.units.specs.declared.Row.{Row}
 use Rattle.keys.specs.Key.{entries, first}
 use Rattle.tables.specs.Rows.{Facts, nobody, exp_at, admitted, admit_from}
@@ -20,17 +19,17 @@ use Rattle.keys.proofs.Ray.{key_ray}
 use Rattle.keys.proofs.Proportional.{proportional}
 use Rattle.keys.proofs.Entries.{entries-one}
 
-module _ (m : Mode) (ss : List Slot) (rs : List Row) (ks : List Facts) (h : admit_from m ss [] rs ≡ admitted ks) (d : Row) where
+module _ (ss : List Slot) (rs : List Row) (ks : List Facts) (h : admit_from ss [] rs ≡ admitted ks) (d : Row) where
   -- a row's base exponents keep the rule, one for each base row
   pub table_sound : (i : ℕ) → i < length rs → SoundRow (length ss) (get_or ks i nobody).exps
-  table_sound i p = take_out (row_sound _ ss _ (get_or rs i d)) (row_known m ss rs ks h d i p).exps
+  table_sound i p = take_out (row_sound _ ss _ (get_or rs i d)) (row_known ss rs ks h d i p).exps
 
   low : (i : ℕ) → i < length rs → All Low (get_or ks i nobody).exps
   low i p = all_imp (get_or ks i nobody).exps (λ x s. s.low) (table_sound i p).each
 
   -- a key has as many numbers
   key-length : (i : ℕ) → i < length rs → length (get_or ks i nobody).key ≡ length ss
-  key-length i p = sym (along_length (take_out (key_ray (get_or ks i nobody).exps (low i p)) (row_known m ss rs ks h d i p).key).is) ∙ (table_sound i p).sized
+  key-length i p = sym (along_length (take_out (key_ray (get_or ks i nobody).exps (low i p)) (row_known ss rs ks h d i p).key).is) ∙ (table_sound i p).sized
 
   pub alike : (i j : ℕ) → i < length rs → j < length rs → entries 0 (get_or ks i nobody).key ≡ entries 0 (get_or ks j nobody).key →
       (b : ℕ) → mul (exp_at ks b i) (first (get_or ks j nobody).exps) ≡ mul (exp_at ks b j) (first (get_or ks i nobody).exps)
@@ -38,4 +37,4 @@ module _ (m : Mode) (ss : List Slot) (rs : List Row) (ks : List Facts) (h : admi
   alike i j p q e b =
       let same : (get_or ks i nobody).key ≡ (get_or ks j nobody).key = entries-one 0 _ _ (key-length i p ∙ sym (key-length j q)) e in
       proportional (get_or ks i nobody).exps (get_or ks j nobody).exps (get_or ks i nobody).key (low i p) (low j q)
-      (row_known m ss rs ks h d i p).key ((row_known m ss rs ks h d j q).key ∙ ap given (sym same)) b
+      (row_known ss rs ks h d i p).key ((row_known ss rs ks h d j q).key ∙ ap given (sym same)) b

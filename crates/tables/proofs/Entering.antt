@@ -17,7 +17,6 @@ use Rattle.exponents.proofs.Numbers.{Refuses, refuses}
 use Rattle.units.specs.declared.Factor.{Factor}
 use Rattle.units.specs.declared.Kind.{Kind}
 use Rattle.units.specs.declared.Kind.TheVariants.{Base}
-use Rattle.units.specs.declared.Mode.{Mode}
 use Rattle.units.specs.declared.Row.{Row}
 use Rattle.units.specs.Lists.{some, factor_fault}
 use Rattle.tables.specs.declared.Slot.{Slot}
@@ -70,29 +69,29 @@ or_true : (b : Bool) → (b || true) ≡ true
 or_true true = refl
 or_true false = refl
 
-module _ (m : Mode) (ss : List Slot) (ks : List Facts) (r : Row) where
-  pub early_fault : early ks r ≡ true → Refuses (row_facts m ss ks r) 1
+module _ (ss : List Slot) (ks : List Facts) (r : Row) where
+  pub early_fault : early ks r ≡ true → Refuses (row_facts ss ks r) 1
   unfolding row_facts table_fault unless
   early_fault h = record { why = TABLE; is = rw h; numbered = refl }
 
-  pub name_fault : names ks r ≡ true → Refuses (row_facts m ss ks r) 1
+  pub name_fault : names ks r ≡ true → Refuses (row_facts ss ks r) 1
   unfolding row_facts table_fault unless
   name_fault h = record { why = TABLE; is = rw (h, or_true); numbered = refl }
 
   module _ (e : early ks r ≡ false) (n : names ks r ≡ false) where
-    pub shape_fault : some factor_fault (def_of r) ≡ true → Refuses (row_facts m ss ks r) 2
+    pub shape_fault : some factor_fault (def_of r) ≡ true → Refuses (row_facts ss ks r) 2
     unfolding row_facts table_fault unless
     shape_fault h = record { why = SHAPE; is = rw (e, n, h); numbered = refl }
 
-    pub sound_row : some factor_fault (def_of r) ≡ false → row_facts m ss ks r ≡ worked_out m ss ks r
+    pub sound_row : some factor_fault (def_of r) ≡ false → row_facts ss ks r ≡ worked_out ss ks r
     unfolding row_facts table_fault unless
     sound_row h = rw (e, n, h)
 
   -- a base row that is let in is at most the sixteenth
-  pub few : (k : Facts) → row_facts m ss ks r ≡ given k → r.kind ≡ Base → count ks ≤ 15
+  pub few : (k : Facts) → row_facts ss ks r ≡ given k → r.kind ≡ Base → count ks ≤ 15
   unfolding kind_fault table_fault
   few k e b =
-      let t : table_fault ks r ≡ false = (take_out (filled.known m ss ks r) e).table in
+      let t : table_fault ks r ≡ false = (take_out (filled.known ss ks r) e).table in
       let f : kind_fault r.kind (count ks) r.len ≡ false = or_right (some (λ k. eqb k.rank r.rank) ks) _ (or_left _ (ltb 8 r.len) (or_left (early ks r) _ t)) in
       ltb-false 15 (count ks) (or_left (ltb 15 (count ks)) _ (ap (λ (t : Kind). kind_fault t (count ks) r.len) (sym b) ∙ f))
 
@@ -102,29 +101,29 @@ module _ (m : Mode) (ss : List Slot) (ks : List Facts) (r : Row) where
     clash e = let z : ◌≡◌ {A = ℕ} 0 1 = cc in omega arith
 
     -- after a refusal they tell nothing
-    pub row_refused : (n : ℕ) → Refuses (row_facts m ss ks r) n → RowIn m ss ks r n nums dens scales ranks based
+    pub row_refused : (n : ℕ) → Refuses (row_facts ss ks r) n → RowIn ss ks r n nums dens scales ranks based
     row_refused n q = (sym q.numbered ∙ sym (ap refusal_of q.is), λ k e. absurd (clash (sym e ∙ q.is)))
 
-    module _ (w : Worked) (sound : row_facts m ss ks r ≡ worked_out m ss ks r) (is : w ≡ worked_of (worked_out m ss ks r)) where
-      number_is : w.refusal ≡ refusal_of (row_facts m ss ks r)
-      number_is = ap (λ (w : Worked). w.refusal) is ∙ go (worked_out m ss ks r) ∙ sym (ap refusal_of sound)
+    module _ (w : Worked) (sound : row_facts ss ks r ≡ worked_out ss ks r) (is : w ≡ worked_of (worked_out ss ks r)) where
+      number_is : w.refusal ≡ refusal_of (row_facts ss ks r)
+      number_is = ap (λ (w : Worked). w.refusal) is ∙ go (worked_out ss ks r) ∙ sym (ap refusal_of sound)
         where
           go : (o : Outcome Facts) → (worked_of o).refusal ≡ refusal_of o
           go (given k) = refl
           go (refused r) = refl
 
-      pub work_refused : (w.refusal ≡ 0 → ⊥) → RowIn m ss ks r w.refusal nums dens scales ranks based
-      work_refused h = row_refused w.refusal (refuses (row_facts m ss ks r) w.refusal number_is h)
+      pub work_refused : (w.refusal ≡ 0 → ⊥) → RowIn ss ks r w.refusal nums dens scales ranks based
+      work_refused h = row_refused w.refusal (refuses (row_facts ss ks r) w.refusal number_is h)
 
       pub work_stored : (i : ℕ) → i ≡ length ks → i < 128 → length ss ≤ 16 → Room nums dens scales ranks based → Paged ks nums dens scales ranks based → w.refusal ≡ 0
-          → RowIn m ss ks r 0 (sets nums (i * 16) (tops w.known.exps)) (sets dens (i * 16) (bottoms w.known.exps)) (set scales i w.known.scale) (set ranks i w.known.rank) (set based i w.known.base)
+          → RowIn ss ks r 0 (sets nums (i * 16) (tops w.known.exps)) (sets dens (i * 16) (bottoms w.known.exps)) (set scales i w.known.scale) (set ranks i w.known.rank) (set based i w.known.base)
       unfolding known_of
       work_stored i at h s room p z = (sym z ∙ number_is, stored)
         where
-          stored : (k : Facts) → row_facts m ss ks r ≡ given k
+          stored : (k : Facts) → row_facts ss ks r ≡ given k
               → Paged (ks ++ (k ∷ [])) (sets nums (i * 16) (tops w.known.exps)) (sets dens (i * 16) (bottoms w.known.exps)) (set scales i w.known.scale) (set ranks i w.known.rank) (set based i w.known.base)
           stored k e =
-              let fact = take_out (filled.known m ss ks r) e in
+              let fact = take_out (filled.known ss ks r) e in
               let long : length k.exps ≡ length ss = (take_out (row_sound r.kind ss ks r) fact.exps).sized in
               let known : w.known ≡ known_of k = ap (λ (w : Worked). w.known) (is ∙ ap worked_of (sym sound ∙ e)) in
               subst (λ (x : Known). Paged (ks ++ (k ∷ [])) (sets nums (i * 16) (tops x.exps)) (sets dens (i * 16) (bottoms x.exps)) (set scales i x.scale) (set ranks i x.rank) (set based i x.base)) (sym known)

@@ -19,73 +19,72 @@ use Rattle.floats.specs.Power.{one}
 use Rattle.units.specs.declared.Factor.{Factor}
 use Rattle.units.specs.declared.Kind.{Kind}
 use Rattle.units.specs.declared.Kind.TheVariants.{Base, Derived}
-use Rattle.units.specs.declared.Mode.{Mode}
 use Rattle.units.specs.declared.Row.{Row}
-use Rattle.units.specs.Modes.{Table}
+use Rattle.units.specs.declared.Rows.{Rows}
 use Rattle.units.specs.Prefixes.{factor_of}
 use Rattle.units.specs.Lists.{some, unknown, factor_fault}
 use Rattle.tables.specs.Lists.{base_at, base}
 use Rattle.keys.specs.Key as key
-use Rattle.tables.specs.Scale.{numbers_in, raised_to, scale_from_lem, size_by}
+use Rattle.tables.specs.Scale.{doubles, raised_to, scale_from_lem, size_by}
 use Rattle.exponents.specs.Words.{pick}
-use Rattle.tables.specs.Rows.{Facts, nobody, exp_at, scale_at, places, bases, def_of, is_base, kind_fault, count, table_fault, row_exps, row_scale_lem, worked_out, row_facts, slots, Admission, admitted, stopped, admit_on, admit_from, rows_in, admit}
+use Rattle.tables.specs.Rows.{Facts, nobody, exp_at, scale_at, places, bases, def_of, is_base, kind_fault, count, table_fault, row_exps, row_scale, worked_out, row_facts, slots, Admission, admitted, stopped, admit_on, admit_from, rows_of, admit}
 use Rattle.tables.specs.declared.Slot.{Slot}
 use Rattle.exponents.proofs.Each.{each_map}
 
 -- ---- one row, over the rows js before it
 
-pub record Known (m : Mode) (ss : List Slot) (js : List Facts) (r : Row) (k : Facts) : Type 0 where
+pub record Known (ss : List Slot) (js : List Facts) (r : Row) (k : Facts) : Type 0 where
   pub table : table_fault js r ≡ false
   pub shape : some factor_fault (def_of r) ≡ false
   pub exps : row_exps r.kind ss js r ≡ given k.exps
   pub key : key.key k.exps ≡ given k.key
-  pub scale : row_scale_lem m r.kind js r ≡ given k.scale
+  pub scale : row_scale r.kind js r ≡ given k.scale
   pub rank : k.rank ≡ r.rank
   pub base : k.base ≡ is_base r.kind
 
-pub known : (m : Mode) (ss : List Slot) (js : List Facts) (r : Row) → Holds (Known m ss js r) (row_facts m ss js r)
+pub known : (ss : List Slot) (js : List Facts) (r : Row) → Holds (Known ss js r) (row_facts ss js r)
 unfolding row_facts worked_out
-known m ss js r =
+known ss js r =
     holds_unless (table_fault js r) _ λ t.
     holds_unless (some factor_fault (def_of r)) _ λ s.
     holds_bind _ (holds_eq (row_exps r.kind ss js r)) λ e p.
     holds_bind _ (holds_eq (key.key e)) λ k q.
-    holds_bind _ (holds_eq (row_scale_lem m r.kind js r)) λ c v.
+    holds_bind _ (holds_eq (row_scale r.kind js r)) λ c v.
     held (record { table = t; shape = s; exps = p; key = q; scale = v; rank = refl; base = refl })
 
 -- ---- the table row after row
 
 -- the rows rs, admitted after js
-pub record Filled (m : Mode) (ss : List Slot) (js : List Facts) (rs : List Row) (ks : List Facts) : Type 0 where
+pub record Filled (ss : List Slot) (js : List Facts) (rs : List Row) (ks : List Facts) : Type 0 where
   pub more : List Facts
   pub is : ks ≡ js ++ more
   pub sized : length more ≡ length rs
   pub ranks : map (λ (k : Facts). k.rank) more ≡ map (λ (r : Row). r.rank) rs
-  pub right : (d : Row) (i : ℕ) → i < length rs → Known m ss (js ++ take i more) (get_or rs i d) (get_or more i nobody)
+  pub right : (d : Row) (i : ℕ) → i < length rs → Known ss (js ++ take i more) (get_or rs i d) (get_or more i nobody)
 
-pub admit_on_lem : (js : List Facts) (o : Outcome Facts) (next : Facts → Admission) (ks : List Facts) {P : Type 0} →
-    admit_on o js next ≡ admitted ks → ((k : Facts) → o ≡ given k → next k ≡ admitted ks → P) → P
-admit_on_lem js (given k) next ks e f = f k refl e
-admit_on_lem js (refused w) next ks e f = absurd (let z : ◌≡◌ {A = ℕ} 0 1 = cc in omega arith)
-
-module _ (m : Mode) (ss : List Slot) where
-  step : (js : List Facts) (r : Row) (rs : List Row) (k : Facts) (ks : List Facts) → row_facts m ss js r ≡ given k → Filled m ss (js ++ (k ∷ [])) rs ks → Filled m ss js (r ∷ rs) ks
+module _ (ss : List Slot) where
+  step : (js : List Facts) (r : Row) (rs : List Row) (k : Facts) (ks : List Facts) → row_facts ss js r ≡ given k → Filled ss (js ++ (k ∷ [])) rs ks → Filled ss js (r ∷ rs) ks
   step js r rs k ks e h = record {
     more = k ∷ h.more;
     is = h.is ∙ append_assoc js (k ∷ []) h.more;
     sized = ap suc h.sized;
-    ranks = ap₂ ◌∷◌ (take_out (known m ss js r) e).rank h.ranks;
+    ranks = ap₂ ◌∷◌ (take_out (known ss js r) e).rank h.ranks;
     right = right;
   }
     where
-      right : (d : Row) (i : ℕ) → i < length (r ∷ rs) → Known m ss (js ++ take i (k ∷ h.more)) (get_or (r ∷ rs) i d) (get_or (k ∷ h.more) i nobody)
-      right d zero p = rw append-nil (take_out (known m ss js r) e)
-      right d (suc i) p = subst (λ l. Known m ss l (get_or rs i d) (get_or h.more i nobody)) (append_assoc js (k ∷ []) (take i h.more)) (h.right d i (omega arith))
+      right : (d : Row) (i : ℕ) → i < length (r ∷ rs) → Known ss (js ++ take i (k ∷ h.more)) (get_or (r ∷ rs) i d) (get_or (k ∷ h.more) i nobody)
+      right d zero p = rw append-nil (take_out (known ss js r) e)
+      right d (suc i) p = subst (λ l. Known ss l (get_or rs i d) (get_or h.more i nobody)) (append_assoc js (k ∷ []) (take i h.more)) (h.right d i (omega arith))
 
-  pub filled : (js : List Facts) (rs : List Row) (ks : List Facts) → admit_from m ss js rs ≡ admitted ks → Filled m ss js rs ks
+  pub admit_on_lem : (js : List Facts) (o : Outcome Facts) (next : Facts → Admission) (ks : List Facts) {P : Type 0} →
+      admit_on o js next ≡ admitted ks → ((k : Facts) → o ≡ given k → next k ≡ admitted ks → P) → P
+  admit_on_lem js (given k) next ks e f = f k refl e
+  admit_on_lem js (refused w) next ks e f = absurd (let z : ◌≡◌ {A = ℕ} 0 1 = cc in omega arith)
+
+  pub filled : (js : List Facts) (rs : List Row) (ks : List Facts) → admit_from ss js rs ≡ admitted ks → Filled ss js rs ks
   unfolding admit_from
   filled js [] ks e = let p : js ≡ ks = cc in record { more = []; is = sym p ∙ sym (append-nil js); sized = refl; ranks = refl; right = λ d i h. absurd (omega arith) }
-  filled js (r ∷ rs) ks e = admit_on_lem js (row_facts m ss js r) _ ks e λ k p q. step js r rs k ks p (filled (js ++ (k ∷ [])) rs ks q)
+  filled js (r ∷ rs) ks e = admit_on_lem js (row_facts ss js r) _ ks e λ k p q. step js r rs k ks p (filled (js ++ (k ∷ [])) rs ks q)
 
 -- ---- rows looked up before and after the others are there
 
@@ -109,12 +108,12 @@ module _ (ks : List Facts) (i : ℕ) where
       (λ x j. sum_same (unknown i) _ _ (λ f p. ap (λ k. mul? f.exponent (get_or k.exps j nought)) (row_same f p)) nought l e x)
       ∙ sym (each_map (base_at l) (exp_at ks) (places 0 n))
 
-  scale_same : (m : Mode) (s : Float) (l : List Factor) → some (unknown i) l ≡ false → scale_from_lem (numbers_in m) (size_by (scale_at (take i ks))) s l ≡ scale_from_lem (numbers_in m) (size_by (scale_at ks)) s l
+  scale_same : (s : Float) (l : List Factor) → some (unknown i) l ≡ false → scale_from_lem doubles (size_by (scale_at (take i ks))) s l ≡ scale_from_lem doubles (size_by (scale_at ks)) s l
   unfolding scale_from_lem some scale_at
-  scale_same m s [] e = refl
-  scale_same m s (f ∷ l) e =
+  scale_same s [] e = refl
+  scale_same s (f ∷ l) e =
       let p = row_same f (or_left (unknown i f) (some (unknown i) l) e) in
-      λ x. bind (raised_to (numbers_in m) (mul ieee.binary64 (factor_of f.prefix) (p x).scale) f.exponent) (λ v. scale_same m (mul ieee.binary64 s v) l (or_right (unknown i f) (some (unknown i) l) e) x)
+      λ x. bind (raised_to doubles (mul ieee.binary64 (factor_of f.prefix) (p x).scale) f.exponent) (λ v. scale_same (mul ieee.binary64 s v) l (or_right (unknown i f) (some (unknown i) l) e) x)
 
 -- a definition without a fault names lower rows only
 pub lower : (js : List Facts) (r : Row) → table_fault js r ≡ false → some (unknown (length js)) (def_of r) ≡ false
@@ -124,17 +123,17 @@ lower js r e = or_right (some (λ k. eqb k.rank r.rank) js || kind_fault r.kind 
 -- ---- in the whole table
 
 -- what the call admits is admitted from row 0 on
-pub admit-rows : (t : Table) (ks : List Facts) → admit t ≡ admitted ks → admit_from t.mode (slots (rows_in t)) [] (rows_in t) ≡ admitted ks
+pub admit-rows : (r : Rows) (ks : List Facts) → admit r ≡ admitted ks → admit_from (slots (rows_of r)) [] (rows_of r) ≡ admitted ks
 unfolding admit
-admit-rows t ks = go (ltb 128 t.rows.len)
+admit-rows r ks = go (ltb 128 r.len)
   where
     go : (t : Bool) {a : Admission} → pick t (stopped TABLE []) a ≡ admitted ks → a ≡ admitted ks
     go true e = absurd (let z : ◌≡◌ {A = ℕ} 0 1 = cc in omega arith)
     go false e = e
 
-module _ (m : Mode) (ss : List Slot) (rs : List Row) (ks : List Facts) (h : admit_from m ss [] rs ≡ admitted ks) where
-  all : Filled m ss [] rs ks
-  all = filled m ss [] rs ks h
+module _ (ss : List Slot) (rs : List Row) (ks : List Facts) (h : admit_from ss [] rs ≡ admitted ks) where
+  all : Filled ss [] rs ks
+  all = filled ss [] rs ks h
 
   pub table-length : length ks ≡ length rs
   table-length = ap length all.is ∙ all.sized
@@ -144,8 +143,8 @@ module _ (m : Mode) (ss : List Slot) (rs : List Row) (ks : List Facts) (h : admi
 
   module _ (d : Row) (i : ℕ) (p : i < length rs) where
     -- each row is what it is over the rows before it
-    pub row_known : Known m ss (take i ks) (get_or rs i d) (get_or ks i nobody)
-    row_known = subst (λ l. Known m ss (take i l) (get_or rs i d) (get_or l i nobody)) (sym all.is) (all.right d i p)
+    pub row_known : Known ss (take i ks) (get_or rs i d) (get_or ks i nobody)
+    row_known = subst (λ l. Known ss (take i l) (get_or rs i d) (get_or l i nobody)) (sym all.is) (all.right d i p)
 
     before : length (take i ks) ≡ i
     before = length-take-le i ks (omega (arith, table-length))
@@ -164,10 +163,10 @@ module _ (m : Mode) (ss : List Slot) (rs : List Row) (ks : List Facts) (h : admi
     base_exps e = let p = rw e at row_known.exps in one_answer (sym p) ∙ ap (λ n. map (λ (s : Slot). pick (eqb s.row n) unit nought) ss) before
 
     -- a derived row's scale is its factor times its definition's, in the whole table too
-    pub row_scale : row_scale_lem m (get_or rs i d).kind ks (get_or rs i d) ≡ given (get_or ks i nobody).scale
-    unfolding row_scale_lem
-    row_scale = sym (go (get_or rs i d).kind) ∙ row_known.scale
+    pub row_scale_lem : row_scale (get_or rs i d).kind ks (get_or rs i d) ≡ given (get_or ks i nobody).scale
+    unfolding row_scale
+    row_scale_lem = sym (go (get_or rs i d).kind) ∙ row_known.scale
       where
-        go : (k : Kind) → row_scale_lem m k (take i ks) (get_or rs i d) ≡ row_scale_lem m k ks (get_or rs i d)
+        go : (k : Kind) → row_scale k (take i ks) (get_or rs i d) ≡ row_scale k ks (get_or rs i d)
         go Base = refl
-        go (Derived f) = ap (apply (mul ieee.binary64 f)) (scale_same ks i m one (def_of (get_or rs i d)) names_lower)
+        go (Derived f) = ap (apply (mul ieee.binary64 f)) (scale_same ks i one (def_of (get_or rs i d)) names_lower)

@@ -38,17 +38,16 @@ tally_refuses (refused r) n e = record { why = r; is = refl; numbered = cc }
 pub forget_bind : (o : Outcome Tally) (f : Tally → Outcome Tally) (g : Float → Outcome Float) → ((t : Tally) → apply plain (f t) ≡ g t.value) → apply plain (bind o f) ≡ bind (apply plain o) g
 forget_bind o f g h = apply_bind o f plain ∙ bind_same o _ _ h ∙ sym (bind_apply o plain g)
 
-forget_raise : (w o t : Bool) (p u q : Tally) → apply plain (raise w o t p u q) ≡ raise w o t p.value u.value q.value
+forget_raise : (w o : Bool) (p u : Tally) → apply plain (raise w o p u) ≡ raise w o p.value u.value
 unfolding raise
-forget_raise true o t p u q = refl
-forget_raise false true t p u q = refl
-forget_raise false false true p u q = refl
-forget_raise false false false p u q = refl
+forget_raise true o p u = refl
+forget_raise false true p u = refl
+forget_raise false false p u = refl
 
 module _ (N : Numbers Float) where
   pub forget_raised : (a : Tally) (e : Exponent) → apply plain (raised_to (counting N) a e) ≡ raised_to N a.value e
   unfolding raised_to
-  forget_raised a e = forget_raise (eqb e.den 1) (N.exactly_one a.value) (N.rooted a.value e.den) _ _ _
+  forget_raised a e = forget_raise (eqb e.den 1) (N.exactly_one a.value) _ _
 
   pub forget_scale : (size : Factor → Tally) (s : Tally) (l : List Factor) → apply plain (scale_from_lem (counting N) size s l) ≡ scale_from_lem N (λ f. (size f).value) s.value l
   unfolding scale_from_lem
@@ -60,16 +59,15 @@ module _ (N : Numbers Float) where
 
   -- ---- what was counted before
 
-  more-raise : (k : ℕ) (w o t : Bool) (p u q p' u' q' : Tally) → p ≡ more k p' → u ≡ more k u' → q ≡ more k q' → raise w o t p u q ≡ apply (more k) (raise w o t p' u' q')
+  more-raise : (k : ℕ) (w o : Bool) (p u q v : Tally) → p ≡ more k q → u ≡ more k v → raise w o p u ≡ apply (more k) (raise w o q v)
   unfolding raise
-  more-raise k true o t p u q p' u' q' e f g = ap given e
-  more-raise k false true t p u q p' u' q' e f g = ap given f
-  more-raise k false false true p u q p' u' q' e f g = ap given g
-  more-raise k false false false p u q p' u' q' e f g = refl
+  more-raise k true o p u q v e f = ap given e
+  more-raise k false true p u q v e f = ap given f
+  more-raise k false false p u q v e f = refl
 
   pub more-raised : (x : Float) (k : ℕ) (e : Exponent) → raised_to (counting N) (tally x k) e ≡ apply (more k) (raised_to (counting N) (tally x 0) e)
   unfolding raised_to
-  more-raised x k e = more-raise k (eqb e.den 1) (N.exactly_one x) (N.rooted x e.den) _ _ _ _ _ _ (ap (tally _) (omega arith)) (ap (tally _) (omega arith)) (ap (tally _) (omega arith))
+  more-raised x k e = more-raise k (eqb e.den 1) (N.exactly_one x) _ _ _ _ (ap (tally _) (omega arith)) (ap (tally _) (omega arith))
 
   -- a size that took k, raised, as code has it
   pub raised_given : (x : Float) (k : ℕ) (e : Exponent) (t : Tally) → tallied_of (raised_to (counting N) (tally x 0) e) ≡ Value t → raised_to (counting N) (tally x k) e ≡ given (more k t)

@@ -1,6 +1,6 @@
 -- A scale worked out from left to right: powers, and one turn of a loop over the list.
 use mathlib.Core.Path.{◌≡◌, refl, sym, ap, ap₂, ◌∙◌}
-use mathlib.Core.Bool.{Bool, true, false, ◌&&◌, false≢true}
+use mathlib.Core.Bool.{true, false}
 use mathlib.Core.List.{List, ◌∷◌}
 use Prim.Native.Nat.{ℕ, ◌+◌, ◌≤◌, ◌<◌}
 use native.Mathlib.Omega.{arith}
@@ -12,17 +12,14 @@ use lib.Ieee.{Float, mul}
 use lib.Ieee as ieee
 use borrow.Author.Tests.{eq-eqb, ne_eqb}
 use Rattle.exponents.specs.Outcome.{Refusal, FRACTION, Outcome, given, refused}
-use Rattle.exponents.specs.Words.{pick}
 use Rattle.exponents.specs.declared.Exponent.{Exponent}
 use Rattle.exponents.proofs.Holds.{bind_given, bind_refused}
 use Rattle.exponents.proofs.Numbers.{Refuses}
-use Rattle.roots.specs.Root.{rooted, root_of}
 use Rattle.units.specs.Prefixes.{factor_of}
 use Rattle.units.specs.declared.Factor.{Factor}
-use Rattle.units.specs.declared.Mode.{Mode}
 use Rattle.units.specs.declared.Row.{Row}
 use Rattle.tables.specs.declared.scales.Scaled.TheVariants.{Value, Refused}
-use Rattle.tables.specs.Scale.{Numbers, rooted_in, numbers_in, raise, raised_to, scale_from_lem, scale, size_by}
+use Rattle.tables.specs.Scale.{Numbers, doubles, raise, raised_to, scale_from_lem, scale, size_by}
 use Rattle.tables.specs.Rows.{Facts, scale_at, def_of}
 use Rattle.tables.specs.Held.{scaled_of}
 use Rattle.tables.proofs.Terms.{nil_factor, Defined, long_def, def_at}
@@ -37,23 +34,9 @@ module _ {R : Type 0} (N : Numbers R) (a : R) (e : Exponent) where
   unfolding raised_to raise
   raised-one h k = rw (ne_eqb e.den 1 h, k)
 
-  pub raised-root : (e.den ≡ 1 → ⊥) → N.exactly_one a ≡ false → N.rooted a e.den ≡ true → raised_to N a e ≡ given (N.power (N.root a e.den) e.num)
+  pub raised_not : (e.den ≡ 1 → ⊥) → N.exactly_one a ≡ false → raised_to N a e ≡ refused FRACTION
   unfolding raised_to raise
-  raised-root h k t = rw (ne_eqb e.den 1 h, k, t)
-
-  pub raised_not : (e.den ≡ 1 → ⊥) → N.exactly_one a ≡ false → N.rooted a e.den ≡ false → raised_to N a e ≡ refused FRACTION
-  unfolding raised_to raise
-  raised_not h k t = rw (ne_eqb e.den 1 h, k, t)
-
--- what code has of a root is the root, where there is one
-pub root_is : (m : Mode) (x : Float) (d : ℕ) → rooted_in m x d ≡ true → pick (rooted x d) (root_of d x) x ≡ root_of d x
-unfolding rooted_in
-root_is m x d h = go m.roots (rooted x d) h
-  where
-    go : (s t : Bool) → (s && t) ≡ true → pick t (root_of d x) x ≡ root_of d x
-    go true true h = refl
-    go true false h = absurd (false≢true h)
-    go false t h = absurd (false≢true h)
+  raised_not h k = rw (ne_eqb e.den 1 h, k)
 
 -- ---- one factor more
 module _ {R : Type 0} (N : Numbers R) (size : Factor → R) (l : List Factor) (s : R) (i : ℕ) where
@@ -83,28 +66,28 @@ scale_refuses (given w) n e = let z : ◌≡◌ {A = ℕ} 0 1 = cc in absurd (om
 scale_refuses (refused r) n e = record { why = r; is = refl; numbered = cc }
 
 -- ---- the loop over a definition
-module _ (m : Mode) (row : Row) (ks : List Facts) (j : ℕ) (acc p t : Float) (g : Defined row) (h : j < row.len)
+module _ (row : Row) (ks : List Facts) (j : ℕ) (acc p t : Float) (g : Defined row) (h : j < row.len)
     (prefix : p ≡ factor_of (get_or row.def j nil_factor).prefix) (is : t ≡ scale_at ks (get_or row.def j nil_factor).row)
-    (so_far : scale_from_lem (numbers_in m) (size_by (scale_at ks)) acc (drop j (def_of row)) ≡ scale (numbers_in m) (size_by (scale_at ks)) (def_of row)) where
+    (so_far : scale_from_lem doubles (size_by (scale_at ks)) acc (drop j (def_of row)) ≡ scale doubles (size_by (scale_at ks)) (def_of row)) where
   -- what the code has raised
   abbrev power : Outcome Float
-  power = raised_to (numbers_in m) (mul ieee.binary64 p t) (get_or row.def j nil_factor).exponent
+  power = raised_to doubles (mul ieee.binary64 p t) (get_or row.def j nil_factor).exponent
 
-  there : power ≡ raised_to (numbers_in m) (size_by (scale_at ks) (get_or (def_of row) j nil_factor)) (get_or (def_of row) j nil_factor).exponent
+  there : power ≡ raised_to doubles (size_by (scale_at ks) (get_or (def_of row) j nil_factor)) (get_or (def_of row) j nil_factor).exponent
   there =
-      ap₂ (λ (p t : Float). raised_to (numbers_in m) (mul ieee.binary64 p t) (get_or row.def j nil_factor).exponent) prefix is
-      ∙ ap (λ (f : Factor). raised_to (numbers_in m) (size_by (scale_at ks) f) f.exponent) (sym (def_at g j h nil_factor))
+      ap₂ (λ (p t : Float). raised_to doubles (mul ieee.binary64 p t) (get_or row.def j nil_factor).exponent) prefix is
+      ∙ ap (λ (f : Factor). raised_to doubles (size_by (scale_at ks) f) f.exponent) (sym (def_at g j h nil_factor))
 
-  pub factor_on : (v : Float) → scaled_of power ≡ Value v → scale_from_lem (numbers_in m) (size_by (scale_at ks)) (mul ieee.binary64 acc v) (drop (j + 1) (def_of row)) ≡ scale (numbers_in m) (size_by (scale_at ks)) (def_of row)
-  factor_on v e = sym (scale_on (numbers_in m) (size_by (scale_at ks)) (def_of row) acc j nil_factor (rw (long_def g) h) v (sym there ∙ value_given power v e)) ∙ so_far
+  pub factor_on : (v : Float) → scaled_of power ≡ Value v → scale_from_lem doubles (size_by (scale_at ks)) (mul ieee.binary64 acc v) (drop (j + 1) (def_of row)) ≡ scale doubles (size_by (scale_at ks)) (def_of row)
+  factor_on v e = sym (scale_on doubles (size_by (scale_at ks)) (def_of row) acc j nil_factor (rw (long_def g) h) v (sym there ∙ value_given power v e)) ∙ so_far
 
-  pub factor_off : (n : ℕ) → scaled_of power ≡ Refused n → Refused n ≡ scaled_of (scale (numbers_in m) (size_by (scale_at ks)) (def_of row))
+  pub factor_off : (n : ℕ) → scaled_of power ≡ Refused n → Refused n ≡ scaled_of (scale doubles (size_by (scale_at ks)) (def_of row))
   factor_off n e =
       let r = scale_refuses power n e in
       ap Refused (sym r.numbered)
-      ∙ sym (ap scaled_of (sym so_far ∙ scale_off (numbers_in m) (size_by (scale_at ks)) (def_of row) acc j nil_factor (rw (long_def g) h) r.why (sym there ∙ r.is)))
+      ∙ sym (ap scaled_of (sym so_far ∙ scale_off doubles (size_by (scale_at ks)) (def_of row) acc j nil_factor (rw (long_def g) h) r.why (sym there ∙ r.is)))
 
-pub factors_end : (m : Mode) (row : Row) (ks : List Facts) (j : ℕ) (acc : Float) → Defined row → row.len ≤ j
-    → scale_from_lem (numbers_in m) (size_by (scale_at ks)) acc (drop j (def_of row)) ≡ scale (numbers_in m) (size_by (scale_at ks)) (def_of row)
-    → Value acc ≡ scaled_of (scale (numbers_in m) (size_by (scale_at ks)) (def_of row))
-factors_end m row ks j acc g h so_far = sym (ap scaled_of (sym so_far ∙ scale_end (numbers_in m) (size_by (scale_at ks)) (def_of row) acc j (omega (arith, long_def g))))
+pub factors_end : (row : Row) (ks : List Facts) (j : ℕ) (acc : Float) → Defined row → row.len ≤ j
+    → scale_from_lem doubles (size_by (scale_at ks)) acc (drop j (def_of row)) ≡ scale doubles (size_by (scale_at ks)) (def_of row)
+    → Value acc ≡ scaled_of (scale doubles (size_by (scale_at ks)) (def_of row))
+factors_end row ks j acc g h so_far = sym (ap scaled_of (sym so_far ∙ scale_end doubles (size_by (scale_at ks)) (def_of row) acc j (omega (arith, long_def g))))

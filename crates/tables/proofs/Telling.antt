@@ -12,7 +12,6 @@ use borrow.Author.Tests.{ltb-true, ltb-false}
 use Rattle.exponents.specs.Fractions.{nought}
 use Rattle.exponents.specs.declared.Exponent.{Exponent}
 use Rattle.units.specs.declared.Factor.{Factor}
-use Rattle.units.specs.declared.Mode.{Mode}
 use Rattle.tables.specs.Rows.{Facts, nobody, exp_at}
 use Rattle.tables.specs.Held.{pack_exps, told, Blank, Paged, view_of, Lent}
 use Rattle.tables.proofs.Terms.{padded}
@@ -20,8 +19,8 @@ use Rattle.tables.proofs.Terms.{padded}
 abbrev exponent : ℤ → ℕ → Exponent
 exponent n d = record { num = n; den = d }
 
-module _ (m : Mode) (ks : List Facts) (l : List Factor) (nums : List ℤ) (dens : List ℕ) (scales : List Float) (ranks : List ℕ) (based : List Bool) (p : Paged ks nums dens scales ranks based) where
-  pub lent_view : Lent (view_of m ks l) nums dens
+module _ (ks : List Facts) (l : List Factor) (nums : List ℤ) (dens : List ℕ) (scales : List Float) (ranks : List ℕ) (based : List Bool) (p : Paged ks nums dens scales ranks based) where
+  pub lent_view : Lent (view_of ks l) nums dens
   unfolding pack_exps told exp_at
   lent_view r s h = padded 16 (get_or ks r nobody).exps s nought h ∙ go (ltb r (length ks)) refl
     where

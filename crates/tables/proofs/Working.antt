@@ -19,7 +19,6 @@ use Rattle.exponents.proofs.Numbers.{Answers, answers, refuses, refusal_map}
 use Rattle.exponents.proofs.Following.{bind_bind}
 use Rattle.floats.specs.Power.{one}
 use Rattle.units.specs.declared.Kind.TheVariants.{Base, Derived}
-use Rattle.units.specs.declared.Mode.{Mode}
 use Rattle.units.specs.declared.Row.{Row}
 use Rattle.tables.specs.declared.Slot.{Slot}
 use Rattle.tables.specs.declared.Slots.{Slots}
@@ -27,9 +26,9 @@ use Rattle.tables.specs.declared.rows.Exps.{Exps}
 use Rattle.tables.specs.declared.scales.Scaled.TheVariants.{Value, Refused}
 use Rattle.tables.specs.Lists.{base}
 use Rattle.keys.specs.Key.{multiple, key}
-use Rattle.tables.specs.Scale.{numbers_in, scale, size_by}
+use Rattle.tables.specs.Scale.{doubles, scale, size_by}
 use Rattle.exponents.specs.Words.{pick, All}
-use Rattle.tables.specs.Rows.{Facts, bases, def_of, scale_at, is_base, row_exps, row_scale_lem, worked_out, self_exp}
+use Rattle.tables.specs.Rows.{Facts, bases, def_of, scale_at, is_base, row_exps, row_scale, worked_out, self_exp}
 use Rattle.tables.specs.Held.{row_derived, pack_slots, no_slot, pack_exps, known_of, exps_of, scaled_of, unworked, worked_of}
 use Rattle.keys.proofs.KeyLaws.{Denominator, lcm-one}
 use Rattle.keys.proofs.KeySizes.{multiple_range}
@@ -81,11 +80,11 @@ pub goes_on : {A : Type 0} (o : Outcome A) (f : A → Outcome Facts) (a : A) →
 goes_on o f a e = ap worked_of (sym (bind_given f e))
 
 -- ---- a derived row
-module _ (m : Mode) (n : ℕ) (ks : List Facts) (row : Row) (f : Float) (e : Exps) (is : e ≡ exps_of (base (bases n ks) (def_of row))) where
+module _ (n : ℕ) (ks : List Facts) (row : Row) (f : Float) (e : Exps) (is : e ≡ exps_of (base (bases n ks) (def_of row))) where
   number : e.refusal ≡ refusal_of (base (bases n ks) (def_of row))
   number = ap (λ (e : Exps). e.refusal) is ∙ exps_number (base (bases n ks) (def_of row))
 
-  pub no_base : (e.refusal ≡ 0 → ⊥) → unworked e.refusal ≡ worked_of (row_derived m n ks row f)
+  pub no_base : (e.refusal ≡ 0 → ⊥) → unworked e.refusal ≡ worked_of (row_derived n ks row f)
   no_base h = stops (base (bases n ks) (def_of row)) _ e.refusal number h
 
   module _ (h : e.refusal ≡ 0) where
@@ -99,7 +98,7 @@ module _ (m : Mode) (n : ℕ) (ks : List Facts) (row : Row) (f : Float) (e : Exp
       key-number : q ≡ refusal_of (key given_base.answer)
       key-number = key_is ∙ ap (λ l. refusal_of (key l)) exps_at ∙ key_padded given_base.answer
 
-      pub no_key : (q ≡ 0 → ⊥) → unworked q ≡ worked_of (row_derived m n ks row f)
+      pub no_key : (q ≡ 0 → ⊥) → unworked q ≡ worked_of (row_derived n ks row f)
       no_key k = stops (key given_base.answer) _ q key-number k ∙ goes_on _ _ _ given_base.is
 
       module _ (k : q ≡ 0) where
@@ -107,17 +106,17 @@ module _ (m : Mode) (n : ℕ) (ks : List Facts) (row : Row) (f : Float) (e : Exp
         given_key = answers (key given_base.answer) q key-number k
 
         abbrev scaled : Outcome Float
-        scaled = scale (numbers_in m) (size_by (scale_at ks)) (def_of row)
+        scaled = scale doubles (size_by (scale_at ks)) (def_of row)
 
-        pub no_scale : (r : ℕ) → scaled_of scaled ≡ Refused r → unworked r ≡ worked_of (row_derived m n ks row f)
-        no_scale r s =
-            let q = scale_refuses scaled r s in
-            ap unworked (sym q.numbered)
-            ∙ ap worked_of (sym (bind_refused _ (ap (apply (mul ieee.binary64 f)) q.is)))
+        pub no_scale : (m : ℕ) → scaled_of scaled ≡ Refused m → unworked m ≡ worked_of (row_derived n ks row f)
+        no_scale m s =
+            let r = scale_refuses scaled m s in
+            ap unworked (sym r.numbered)
+            ∙ ap worked_of (sym (bind_refused _ (ap (apply (mul ieee.binary64 f)) r.is)))
             ∙ goes_on _ _ _ given_key.is
             ∙ goes_on _ _ _ given_base.is
 
-        pub all_three : (v : Float) → scaled_of scaled ≡ Value v → record { known = record { exps = e.at; scale = mul ieee.binary64 f v; rank = row.rank; base = false }; refusal = 0 } ≡ worked_of (row_derived m n ks row f)
+        pub all_three : (v : Float) → scaled_of scaled ≡ Value v → record { known = record { exps = e.at; scale = mul ieee.binary64 f v; rank = row.rank; base = false }; refusal = 0 } ≡ worked_of (row_derived n ks row f)
         unfolding known_of
         all_three v s =
             ap (λ (l : List Exponent). record { known = record { exps = l; scale = mul ieee.binary64 f v; rank = row.rank; base = false }; refusal = 0 }) exps_at
@@ -125,9 +124,9 @@ module _ (m : Mode) (n : ℕ) (ks : List Facts) (row : Row) (f : Float) (e : Exp
             ∙ goes_on _ _ _ given_key.is
             ∙ goes_on _ _ _ given_base.is
 
-pub derived_is : (m : Mode) (ss : List Slot) (ks : List Facts) (row : Row) (f : Float) → row.kind ≡ Derived f → worked_of (row_derived m (length ss) ks row f) ≡ worked_of (worked_out m ss ks row)
-unfolding worked_out row_exps row_scale_lem is_base
-derived_is m ss ks row f e = rw e
+pub derived_is : (ss : List Slot) (ks : List Facts) (row : Row) (f : Float) → row.kind ≡ Derived f → worked_of (row_derived (length ss) ks row f) ≡ worked_of (worked_out ss ks row)
+unfolding worked_out row_exps row_scale is_base
+derived_is ss ks row f e = rw e
 
 -- ---- a base row
 self_ones : (i : ℕ) (ss : List Slot) → All (λ (x : Exponent). x.den ≡ 1) (map (self_exp i) ss)
@@ -138,10 +137,10 @@ self_ones i (s ∷ ss) = (go (eqb s.row i), self_ones i ss)
     go true = refl
     go false = refl
 
-pub base_is : (m : Mode) (ss : List Slot) (ks : List Facts) (row : Row) (exps : List Exponent) → row.kind ≡ Base → exps ≡ pack_exps (map (self_exp (length ks)) ss)
-    → record { known = record { exps = exps; scale = one; rank = row.rank; base = true }; refusal = 0 } ≡ worked_of (worked_out m ss ks row)
-unfolding worked_out row_exps row_scale_lem is_base known_of key bind
-base_is m ss ks row exps e p =
+pub base_is : (ss : List Slot) (ks : List Facts) (row : Row) (exps : List Exponent) → row.kind ≡ Base → exps ≡ pack_exps (map (self_exp (length ks)) ss)
+    → record { known = record { exps = exps; scale = one; rank = row.rank; base = true }; refusal = 0 } ≡ worked_of (worked_out ss ks row)
+unfolding worked_out row_exps row_scale is_base known_of key bind
+base_is ss ks row exps e p =
     ap (λ (l : List Exponent). record { known = record { exps = l; scale = one; rank = row.rank; base = true }; refusal = 0 }) p
     ∙ rw (e, ones 1 (map (self_exp (length ks)) ss) start (self_ones (length ks) ss))
 

@@ -12,12 +12,11 @@ use Rattle.units.specs.declared.Factor.{Factor}
 use Rattle.units.specs.declared.Kind.{Kind}
 use Rattle.units.specs.declared.Kind.TheVariants.{Base, Derived}
 use Rattle.units.specs.declared.Row.{Row}
-use Rattle.units.specs.declared.Mode.{Mode}
-use Rattle.units.specs.Modes.{plain, Table}
+use Rattle.units.specs.declared.Rows.{Rows}
 use Rattle.units.specs.Lists.{no_factor, some, factor_fault}
 use Rattle.keys.specs.Key.{key, first}
 use Rattle.tables.specs.Lists.{base}
-use Rattle.tables.specs.Scale.{numbers_in, scale, size_by}
+use Rattle.tables.specs.Scale.{doubles, scale, size_by}
 use Rattle.keys.specs.Orders.{is_eq}
 use Rattle.tables.specs.Rows.{Facts, nobody, exp_at, scale_at, places, bases, count, def_of, row_facts, Admission, admitted, stopped, admit, base_rows}
 use Rattle.tables.specs.Order.{Atom, key_order, row_order, order, order_in}
@@ -93,11 +92,11 @@ counted Base n = n + 1
 counted (Derived f) n = n
 
 -- a derived row, where there are n base rows
-abbrev pub row_derived : Mode → ℕ → List Facts → Row → Float → Outcome Facts
-row_derived m n ks r f =
+abbrev pub row_derived : ℕ → List Facts → Row → Float → Outcome Facts
+row_derived n ks r f =
     bind (base (bases n ks) (def_of r)) (λ e.
     bind (key e) (λ k.
-    bind (apply (mul binary64 f) (scale (numbers_in m) (size_by (scale_at ks)) (def_of r))) (λ s.
+    bind (apply (mul binary64 f) (scale doubles (size_by (scale_at ks)) (def_of r))) (λ s.
     given (record { exps = e; key = k; scale = s; rank = r.rank; base = false }))))
 
 -- ---- an admitted table: five arrays of plain numbers. Row r's base exponents stand at 16 r and the places behind it; its scale, rank and kind at r.
@@ -162,20 +161,20 @@ abbrev pub admitted_of : List Slot → Admission → Admitted
 admitted_of ss (admitted ks) = record { slots = pack_slots ss; len = length ks; refusal = 0 }
 admitted_of ss (stopped r ks) = record { slots = pack_slots []; len = length ks; refusal = number r }
 
--- t is what code holds of the table r: its base rows and how many rows it has, or the refusal; the arrays tell the rest
-pub record Admits (r : Table) (t : Admitted) (nums : List ℤ) (dens : List ℕ) (scales : List Float) (ranks : List ℕ) (based : List Bool) : Type 0 where
-  pub is : t ≡ admitted_of (base_rows r) (admit r)
+-- t is what code holds of the table `rows`: its base rows and how many rows it has, or the refusal; the arrays tell the rest
+pub record Admits (rows : Rows) (t : Admitted) (nums : List ℤ) (dens : List ℕ) (scales : List Float) (ranks : List ℕ) (based : List Bool) : Type 0 where
+  pub is : t ≡ admitted_of (base_rows rows) (admit rows)
   pub room : Room nums dens scales ranks based
-  pub pages : Pages (admit r) nums dens scales ranks based
+  pub pages : Pages (admit rows) nums dens scales ranks based
 
 -- one row more, as the number of its refusal, 0 for none, and as the arrays after it
-abbrev pub RowIn : Mode → List Slot → List Facts → Row → ℕ → List ℤ → List ℕ → List Float → List ℕ → List Bool → Type 0
-RowIn m ss ks row n nums dens scales ranks based = (n ≡ refusal_of (row_facts m ss ks row)) × ((k : Facts) → row_facts m ss ks row ≡ given k → Paged (ks ++ (k ∷ [])) nums dens scales ranks based)
+abbrev pub RowIn : List Slot → List Facts → Row → ℕ → List ℤ → List ℕ → List Float → List ℕ → List Bool → Type 0
+RowIn ss ks row n nums dens scales ranks based = (n ≡ refusal_of (row_facts ss ks row)) × ((k : Facts) → row_facts ss ks row ≡ given k → Paged (ks ++ (k ∷ [])) nums dens scales ranks based)
 
 -- that of row i, with so many base rows before it, from the arrays before it to those after it
-pub record Enters (m : Mode) (slots : Slots) (i bases : ℕ) (row : Row) (n : ℕ) (nums : List ℤ) (dens : List ℕ) (scales : List Float) (ranks : List ℕ) (based : List Bool) (nums' : List ℤ) (dens' : List ℕ) (scales' : List Float) (ranks' : List ℕ) (based' : List Bool) : Type 0 where
+pub record Enters (slots : Slots) (i bases : ℕ) (row : Row) (n : ℕ) (nums : List ℤ) (dens : List ℕ) (scales : List Float) (ranks : List ℕ) (based : List Bool) (nums' : List ℤ) (dens' : List ℕ) (scales' : List Float) (ranks' : List ℕ) (based' : List Bool) : Type 0 where
   pub room : Room nums' dens' scales' ranks' based'
-  pub joins : (ss : List Slot) (ks : List Facts) → slots ≡ pack_slots ss → i ≡ length ks → bases ≡ count ks → Paged ks nums dens scales ranks based → RowIn m ss ks row n nums' dens' scales' ranks' based'
+  pub joins : (ss : List Slot) (ks : List Facts) → slots ≡ pack_slots ss → i ≡ length ks → bases ≡ count ks → Paged ks nums dens scales ranks based → RowIn ss ks row n nums' dens' scales' ranks' based'
 
 -- ---- a table as the lists of a call see it
 
@@ -187,8 +186,6 @@ pub record View : Type 0 where
   pub exps : ℕ → List Exponent
   pub scale : ℕ → Float
   pub base : ℕ → Bool
-  -- the mode by which it is read
-  pub mode : Mode
   -- the lists, joined
   pub among : List Factor
   -- where a row stands among theirs: by key, then rank
@@ -209,7 +206,7 @@ abbrev pub rules_by : View → ℕ → Rules Float
 rules_by v n = record {
   order = v.order;
   bases = view_bases v n;
-  numbers = numbers_in v.mode;
+  numbers = doubles;
   size = size_by v.scale;
   alike = v.alike;
   is_base = v.base;
@@ -244,15 +241,14 @@ unfoldable pub before : (ℕ → ℕ → Ordering) → List Factor → ℕ → �
 before cmp [] r = 0
 before cmp (f ∷ l) r = tally (is_less (cmp f.row r)) (before cmp l r)
 
--- the table of mode m whose rows are known as ks, seen by way of the list l
-abbrev pub view_of : Mode → List Facts → List Factor → View
-view_of m ks l = record {
+-- the table whose rows are known as ks, seen by way of the list l
+abbrev pub view_of : List Facts → List Factor → View
+view_of ks l = record {
   order = order_in ks;
   alike = λ r s. is_eq (key_order ks r s);
   exps = λ r. pack_exps (get_or ks r nobody).exps;
   scale = scale_at ks;
   base = λ r. (get_or ks r nobody).base;
-  mode = m;
   among = l;
   place = before (row_order ks) l;
   class = before (key_order ks) l;
@@ -271,11 +267,11 @@ pub record Lends (v : View) (n : ℕ) (nums : List ℤ) (dens : List ℕ) : Type
 -- ---- a resolved list
 
 abbrev pub item_of : View → Factor → Item
-item_of v f = record { factor = f; scale = v.scale f.row; place = v.place f.row; class = v.class f.row; base = v.base f.row; mode = v.mode }
+item_of v f = record { factor = f; scale = v.scale f.row; place = v.place f.row; class = v.class f.row; base = v.base f.row }
 
 -- what stands past the end
 abbrev pub no_item : Item
-no_item = record { factor = no_factor; scale = one; place = 0; class = 0; base = false; mode = plain }
+no_item = record { factor = no_factor; scale = one; place = 0; class = 0; base = false }
 
 unfoldable pub pack_items : View → List Factor → Items
 pack_items v l = record { at = map (item_of v) l ++ replicate (16 - length l) no_item; len = length l }

@@ -11,14 +11,12 @@ use Rattle.floats.specs.Values.{is_positive}
 use Rattle.units.specs.declared.Factor.{Factor}
 use Rattle.units.specs.declared.Kind.{Kind}
 use Rattle.units.specs.declared.Kind.TheVariants.{Base, Derived}
-use Rattle.units.specs.declared.Mode.{Mode}
 use Rattle.units.specs.declared.Row.{Row}
 use Rattle.units.specs.declared.Rows.{Rows}
 use Rattle.units.specs.Lists.{some, factor_fault}
-use Rattle.units.specs.Modes.{Table}
 use Rattle.tables.specs.Lists.{base}
 use Rattle.keys.specs.Key.{key}
-use Rattle.tables.specs.Scale.{numbers_in, scale, size_by}
+use Rattle.tables.specs.Scale.{doubles, scale, size_by}
 use Rattle.tables.specs.declared.Slot.{Slot}
 
 -- ---- what is known of an admitted row
@@ -108,26 +106,24 @@ unfoldable pub row_exps : Kind → List Slot → List Facts → Row → Outcome 
 row_exps Base ss ks r = given (map (self_exp (length ks)) ss)
 row_exps (Derived f) ss ks r = base (bases (length ss) ks) (def_of r)
 
--- what the mode says of powers of a scale goes into a row's scale, and into nothing else of it
-module _ (m : Mode) where
-  -- a base row's scale is 1, a derived row's its factor times its definition's
-  unfoldable pub row_scale_lem : Kind → List Facts → Row → Outcome Float
-  row_scale_lem Base ks r = given one
-  row_scale_lem (Derived f) ks r = apply (mul binary64 f) (scale (numbers_in m) (size_by (scale_at ks)) (def_of r))
+-- a base row's scale is 1, a derived row's its factor times its definition's
+unfoldable pub row_scale : Kind → List Facts → Row → Outcome Float
+row_scale Base ks r = given one
+row_scale (Derived f) ks r = apply (mul binary64 f) (scale doubles (size_by (scale_at ks)) (def_of r))
 
-  -- RANGE or DENOMINATOR of the base exponents, DENOMINATOR of the key, then FRACTION
-  unfoldable pub worked_out : List Slot → List Facts → Row → Outcome Facts
-  worked_out ss ks r =
-      bind (row_exps r.kind ss ks r) (λ e.
-      bind (key e) (λ k.
-      bind (row_scale_lem r.kind ks r) (λ s.
-      given (record { exps = e; key = k; scale = s; rank = r.rank; base = is_base r.kind }))))
+-- RANGE or DENOMINATOR of the base exponents, DENOMINATOR of the key, then FRACTION
+unfoldable pub worked_out : List Slot → List Facts → Row → Outcome Facts
+worked_out ss ks r =
+    bind (row_exps r.kind ss ks r) (λ e.
+    bind (key e) (λ k.
+    bind (row_scale r.kind ks r) (λ s.
+    given (record { exps = e; key = k; scale = s; rank = r.rank; base = is_base r.kind }))))
 
-  unfoldable pub row_facts : List Slot → List Facts → Row → Outcome Facts
-  row_facts ss ks r =
-      unless (table_fault ks r) TABLE
-      (unless (some factor_fault (def_of r)) SHAPE
-      (worked_out ss ks r))
+unfoldable pub row_facts : List Slot → List Facts → Row → Outcome Facts
+row_facts ss ks r =
+    unless (table_fault ks r) TABLE
+    (unless (some factor_fault (def_of r)) SHAPE
+    (worked_out ss ks r))
 
 -- ---- the table
 
@@ -141,30 +137,26 @@ abbrev pub admit_on : Outcome Facts → List Facts → (Facts → Admission) →
 admit_on (given k) ks next = next k
 admit_on (refused w) ks next = stopped w ks
 
-unfoldable pub admit_from : Mode → List Slot → List Facts → List Row → Admission
-admit_from m ss ks [] = admitted ks
-admit_from m ss ks (r ∷ rs) = admit_on (row_facts m ss ks r) ks (λ k. admit_from m ss (ks ++ (k ∷ [])) rs)
+unfoldable pub admit_from : List Slot → List Facts → List Row → Admission
+admit_from ss ks [] = admitted ks
+admit_from ss ks (r ∷ rs) = admit_on (row_facts ss ks r) ks (λ k. admit_from ss (ks ++ (k ∷ [])) rs)
 
 -- the rows of a value: its first `len` places, where `len` is the true count
 abbrev pub rows_of : Rows → List Row
 rows_of r = take r.len r.at
 
--- the rows of a table
-abbrev pub rows_in : Table → List Row
-rows_in t = rows_of t.rows
-
 -- over 128 rows: TABLE, before any row
-unfoldable pub admit : Table → Admission
-admit t = pick (ltb 128 t.rows.len) (stopped TABLE []) (admit_from t.mode (slots (rows_in t)) [] (rows_in t))
+unfoldable pub admit : Rows → Admission
+admit r = pick (ltb 128 r.len) (stopped TABLE []) (admit_from (slots (rows_of r)) [] (rows_of r))
 
 -- what is known of the rows, or the table's refusal
 abbrev pub known : Admission → Outcome (List Facts)
 known (admitted ks) = given ks
 known (stopped r ks) = refused r
 
-abbrev pub table : Table → Outcome (List Facts)
+abbrev pub table : Rows → Outcome (List Facts)
 table t = known (admit t)
 
 -- the base rows of a table, in rank order
-abbrev pub base_rows : Table → List Slot
-base_rows t = slots (rows_in t)
+abbrev pub base_rows : Rows → List Slot
+base_rows t = slots (rows_of t)

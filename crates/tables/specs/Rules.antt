@@ -4,11 +4,11 @@ use Prim.Native.Nat.{ℕ, Ordering}
 use Rattle.exponents.specs.Outcome.{Outcome}
 use Rattle.exponents.specs.declared.Exponent.{Exponent}
 use Rattle.units.specs.declared.Factor.{Factor}
-use Rattle.units.specs.Modes.{Table}
+use Rattle.units.specs.declared.Rows.{Rows}
 use Rattle.keys.specs.Orders.{is_eq}
 use Rattle.keys.specs.Key.{first}
 use Rattle.floats.specs.declared.Tally.{Tally}
-use Rattle.tables.specs.Scale.{Numbers, numbers_in, counting, size_by, counted_size, scale}
+use Rattle.tables.specs.Scale.{Numbers, doubles, counting, size_by, counted_size, scale}
 use Rattle.tables.specs.Rows.{Facts, nobody, scale_at, bases, base_rows}
 use Rattle.tables.specs.Order.{Atom, key_order, order_in}
 
@@ -32,12 +32,12 @@ pub record Rules (A : Type 0) : Type 0 where
 abbrev pub scale_by : {A : Type 0} → Rules A → List Factor → Outcome A
 scale_by R = scale R.numbers R.size
 
--- those of the table t, by its mode, whose rows are known as ks
-abbrev pub rules_in : Table → List Facts → Rules Float
+-- those of the table t, whose rows are known as ks
+abbrev pub rules_in : Rows → List Facts → Rules Float
 rules_in t ks = record {
   order = order_in ks;
   bases = bases (length (base_rows t)) ks;
-  numbers = numbers_in t.mode;
+  numbers = doubles;
   size = size_by (scale_at ks);
   alike = λ r s. is_eq (key_order ks r s);
   is_base = λ r. (get_or ks r nobody).base;

@@ -1,5 +1,5 @@
--- The scale of a list (01, "Powers and scales"): 1 times, from left to right, each size to its exponent. A scale other than 1 that meets an exponent that isn't whole is FRACTION, unless it has a root (02, order 6). It is said over the numbers that it is worked out with: a mode's, or such that carry the multiplications they took (02, order 5).
-use Rattle.std.specs.Prelude.{Bool, true, false, ◌&&◌, List, [], ◌∷◌, ℕ, ◌+◌, ℤ, pos, eqb, Float}
+-- The scale of a list (01, "Powers and scales"): 1 times, from left to right, each size to its exponent. A scale other than 1 that meets an exponent that isn't whole is FRACTION. It is said over the numbers that it is worked out with: 01's, or such that carry the multiplications they took (02, order 5).
+use Rattle.std.specs.Prelude.{Bool, true, false, List, [], ◌∷◌, ℕ, ◌+◌, ℤ, pos, eqb, Float}
 use Rattle.std.specs.Float.{binary64}
 use Rattle.std.specs.Float.Ieee.{mul, div}
 use Rattle.exponents.specs.Outcome.{Outcome, given, refused, FRACTION, bind}
@@ -7,64 +7,51 @@ use Rattle.floats.specs.Power as powers
 use Rattle.floats.specs.Power.{tally, power_count}
 use Rattle.floats.specs.declared.Tally.{Tally}
 use Rattle.floats.specs.Values as values
-use Rattle.roots.specs.Root as roots
 use Rattle.exponents.specs.declared.Exponent.{Exponent}
 use Rattle.units.specs.declared.Factor.{Factor}
-use Rattle.units.specs.declared.Mode.{Mode}
 use Rattle.units.specs.Prefixes.{factor_of, factor_count}
 
--- what values and scales are worked out with; `power` is the power rule, `rooted` whether a number has a root of a degree, `root` the root
+-- what values and scales are worked out with; `power` is the power rule
 pub record Numbers (R : Type 0) : Type 0 where
   pub one : R
   pub times : R → R → R
   pub divide : R → R → R
   pub power : R → ℤ → R
-  pub rooted : R → ℕ → Bool
-  pub root : R → ℕ → R
   pub exactly_one : R → Bool
   pub is_zero : R → Bool
 
--- whether a number has a root of that degree: where the mode has roots (02, order 6), a finite positive one has a square and a cube root
-unfoldable pub rooted_in : Mode → Float → ℕ → Bool
-rooted_in m x d = m.roots && roots.rooted x d
-
--- a mode's numbers: IEEE 754 binary64, the root being the nearest one
-abbrev pub numbers_in : Mode → Numbers Float
-numbers_in m = record {
+-- 01's numbers: IEEE 754 binary64
+abbrev pub doubles : Numbers Float
+doubles = record {
   one = powers.one;
   times = mul binary64;
   divide = div binary64;
   power = powers.power;
-  rooted = rooted_in m;
-  root = λ x d. roots.root_of d x;
   exactly_one = values.exactly_one;
   is_zero = values.is_zero;
 }
 
--- 02, order 5: the same numbers, each with the multiplications inside the power rule that it took. A power adds its own; a product and a quotient add none to those of both, a root none to those of its number.
+-- 02, order 5: the same numbers, each with the multiplications inside the power rule that it took. A power adds its own; a product and a quotient add none to those of both.
 abbrev pub counting : Numbers Float → Numbers Tally
 counting N = record {
   one = tally N.one 0;
   times = λ x y. tally (N.times x.value y.value) (x.count + y.count);
   divide = λ x y. tally (N.divide x.value y.value) (x.count + y.count);
   power = λ x n. tally (N.power x.value n) (x.count + power_count n);
-  rooted = λ x d. N.rooted x.value d;
-  root = λ x d. tally (N.root x.value d) x.count;
   exactly_one = λ x. N.exactly_one x.value;
   is_zero = λ x. N.is_zero x.value;
 }
 
 module _ {R : Type 0} where
-  -- p is the power to a whole exponent; else exactly 1 gives 1; else q is the power of the root, if there is one
-  unfoldable pub raise : Bool → Bool → Bool → R → R → R → Outcome R
-  raise true one? root? p u q = given p
-  raise false true root? p u q = given u
-  raise false false true p u q = given q
-  raise false false false p u q = refused FRACTION
+  -- p is the power to a whole exponent; else exactly 1 gives 1
+  unfoldable pub raise : Bool → Bool → R → R → Outcome R
+  raise true one? p u = given p
+  raise false true p u = given u
+  raise false false p u = refused FRACTION
 
 -- a to the e; the 1 that exactly 1 gives is its power to 0
 unfoldable pub raised_to : {R : Type 0} → Numbers R → R → Exponent → Outcome R
-raised_to N a e = raise (eqb e.den 1) (N.exactly_one a) (N.rooted a e.den) (N.power a e.num) (N.power a (pos 0)) (N.power (N.root a e.den) e.num)
+raised_to N a e = raise (eqb e.den 1) (N.exactly_one a) (N.power a e.num) (N.power a (pos 0))
 
 -- `size` is what is raised: a prefix's factor times its row's scale, rounded
 module _ {R : Type 0} (N : Numbers R) (size : Factor → R) where

@@ -1,14 +1,13 @@
 // Admission of a table's rows, in row order (01, "Records and sizes", "The refusals"): the first fault decides.
 ghost use Rattle.std.specs.Prelude.{◌≡◌, ◌||◌, not, [], ◌≤◌, ◌<◌, ltb, eqb, length, take};
 ghost use Rattle.units.specs.Lists.{some};
-ghost use Rattle.units.specs.Modes.{in_mode};
 ghost use Rattle.tables.specs.Rows as spec;
 ghost use Rattle.tables.specs.Rows.{rows_of, def_of};
 ghost use Rattle.tables.specs.Held.{pack_slots, Room, Blank, counted, Admits, Enters};
 
 use super::{Admitted, Slot, Slots, pages, ranked, rows};
 use exponents::refusals::{SHAPE, TABLE};
-use units::{Kind, Mode, Row, Rows};
+use units::{Kind, Row, Rows};
 
 // A refused table, and how many rows stood before the fault.
 pub fn refused(refusal: u32, len: usize) -> Admitted
@@ -105,7 +104,6 @@ fn names_ahead(row: Row, i: usize) -> bool
 
 // Row i put behind the rows before it, of which `bases` are base: 0, or the number of its refusal.
 pub fn admit_row(
-    mode: Mode,
     row: Row,
     i: usize,
     slots: Slots,
@@ -117,7 +115,7 @@ pub fn admit_row(
     based: &mut [bool],
 ) -> u32
     requires { (i < 128) × (slots.len ≤ 16) × Room nums.old dens.old scales.old ranks.old based.old }
-    ensures { Enters mode slots i bases row result nums.old dens.old scales.old ranks.old based.old nums.new dens.new scales.new ranks.new based.new }
+    ensures { Enters slots i bases row result nums.old dens.old scales.old ranks.old based.old nums.new dens.new scales.new ranks.new based.new }
 {
     let met = rank_met(ranks, i, row.rank);
     if row_fault(row, bases, met) {
@@ -129,7 +127,7 @@ pub fn admit_row(
     if rows::def_fault(row) {
         return SHAPE;
     }
-    let w = rows::work_out(mode, row, nums, dens, scales, slots, i);
+    let w = rows::work_out(row, nums, dens, scales, slots, i);
     if w.refusal != 0 {
         return w.refusal;
     }
@@ -149,9 +147,8 @@ fn taken(row: Row) -> Row
     row
 }
 
-// The rows of a table by a mode, put in the five arrays; or the first fault's refusal, and how many rows stood before it.
+// The rows of a table, put in the five arrays; or the first fault's refusal, and how many rows stood before it.
 pub fn admit(
-    mode: Mode,
     rows: Rows,
     nums: &mut [i32],
     dens: &mut [u32],
@@ -160,7 +157,7 @@ pub fn admit(
     based: &mut [bool],
 ) -> Admitted
     requires { Room nums.old dens.old scales.old ranks.old based.old × Blank 0 nums.old dens.old }
-    ensures { Admits (in_mode mode rows) result nums.new dens.new scales.new ranks.new based.new }
+    ensures { Admits rows result nums.new dens.new scales.new ranks.new based.new }
 {
     let n = rows.len;
     if 128 < n {
@@ -171,7 +168,7 @@ pub fn admit(
     let mut i: usize = 0;
     while i < n {
         let row = taken(rows.at[i]);
-        let c = admit_row(mode, row, i, slots, bases, nums, dens, scales, ranks, based);
+        let c = admit_row(row, i, slots, bases, nums, dens, scales, ranks, based);
         if c != 0 {
             return refused(c, i);
         }

@@ -4,7 +4,7 @@ ghost use Rattle.std.specs.Prelude.{◌≡◌, []};
 ghost use Rattle.tables.specs.Held.{packed};
 
 use exponents::Exponent;
-use units::{Factor, Mode};
+use units::Factor;
 
 pub mod ranked; // the base rows in rank order
 pub mod scales; // powers of a scale
@@ -44,7 +44,7 @@ pub struct Admitted {
 }
 
 // A factor with what is known of its row: its scale, its place in the order of rows and its key's class among the rows of
-// the call, and whether it is base; and the mode by which the table is read, which so goes wherever a list goes. Its base exponents stay in the table's arrays, by the row's number: lists are copied often.
+// the call, and whether it is base. Its base exponents stay in the table's arrays, by the row's number: lists are copied often.
 #[derive(Drop)]
 pub struct Item {
     pub factor: Factor,
@@ -52,7 +52,6 @@ pub struct Item {
     pub place: u32,
     pub class: u32,
     pub base: bool,
-    pub mode: Mode,
 }
 
 // A resolved list.
@@ -67,14 +66,12 @@ pub fn no_items() -> Items
     ensures { result ≡ packed [] }
 {
     let f = units::lists::no_factor();
-    let mode = units::modes::PLAIN;
     let none = Item {
         factor: f,
         scale: 1.0,
         place: 0,
         class: 0,
         base: false,
-        mode: mode,
     };
     Items {
         at: [none; 16],

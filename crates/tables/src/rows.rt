@@ -8,12 +8,12 @@ ghost use Rattle.tables.specs.Lists.{base};
 ghost use Rattle.tables.specs.Rows.{Facts, def_of, bases, scale_at, worked_out, self_exp};
 ghost use Rattle.tables.specs.Held.{blank_known, no_exps, exps_of, scaled_of, unworked as unworkedBy, worked_of, pack_slots, pack_exps, row_derived, Reaching, Filed, Sized};
 ghost use Rattle.tables.specs.declared.Slot.{Slot as Slotᵛ};
-ghost use Rattle.tables.specs.Scale.{numbers_in, scale, size_by};
+ghost use Rattle.tables.specs.Scale.{doubles, scale, size_by};
 
 use super::scales::Scaled;
 use super::{Known, Slot, Slots, pages};
 use exponents::{Exponent, Fraction};
-use units::{Kind, Mode, Row};
+use units::{Kind, Row};
 
 // What is known of a row, or the number of the refusal.
 #[derive(Drop)]
@@ -122,9 +122,9 @@ fn exps_of(row: Row, nums: &[i32], dens: &[u32], n: usize) -> Exps
 }
 
 // The scale of a definition.
-fn scale_of(mode: Mode, row: Row, scales: &[f64]) -> Scaled
+fn scale_of(row: Row, scales: &[f64]) -> Scaled
     requires { (row.len ≤ 8) × (some (λ f. not (ltb f.row 128)) (def_of row) ≡ false) × (length scales.now ≡ 128) }
-    ensures { (ks : List Facts) → Reaching ks (def_of row) → Sized ks scales.now → result ≡ scaled_of (scale (numbers_in mode) (size_by (scale_at ks)) (def_of row)) }
+    ensures { (ks : List Facts) → Reaching ks (def_of row) → Sized ks scales.now → result ≡ scaled_of (scale doubles (size_by (scale_at ks)) (def_of row)) }
 {
     let m = row.len;
     let mut acc = 1.0;
@@ -134,7 +134,7 @@ fn scale_of(mode: Mode, row: Row, scales: &[f64]) -> Scaled
         let p = f.prefix;
         let e = f.exponent;
         let size = units::prefixes::factor_of(p) * scales[f.row as usize];
-        let x = super::scales::raised(mode, size, e);
+        let x = super::scales::raised(size, e);
         match x {
             Scaled::Value(v) => {
                 acc = acc * v;
@@ -205,7 +205,6 @@ fn own_exps(slots: Slots, i: usize) -> [Exponent; 16]
 
 // A derived row: RANGE or DENOMINATOR of its base exponents, DENOMINATOR of its key, then FRACTION.
 fn derived_row(
-    mode: Mode,
     row: Row,
     nums: &[i32],
     dens: &[u32],
@@ -214,7 +213,7 @@ fn derived_row(
     factor: f64,
 ) -> Worked
     requires { (row.len ≤ 8) × (n ≤ 16) × (some factor_fault (def_of row) ≡ false) × (some (λ f. not (ltb f.row 128)) (def_of row) ≡ false) × (length nums.now ≡ 2048) × (length dens.now ≡ 2048) × (length scales.now ≡ 128) }
-    ensures { (ks : List Facts) → Reaching ks (def_of row) → Filed ks nums.now dens.now → Sized ks scales.now → result ≡ worked_of (row_derived mode n ks row factor) }
+    ensures { (ks : List Facts) → Reaching ks (def_of row) → Filed ks nums.now dens.now → Sized ks scales.now → result ≡ worked_of (row_derived n ks row factor) }
 {
     let e = exps_of(row, nums, dens, n);
     if e.refusal != 0 {
@@ -225,7 +224,7 @@ fn derived_row(
     if q != 0 {
         return unworked(q);
     }
-    let s = scale_of(mode, row, scales);
+    let s = scale_of(row, scales);
     match s {
         Scaled::Value(v) => Worked {
             known: Known {
@@ -242,7 +241,6 @@ fn derived_row(
 
 // A row whose table rules are kept and whose definition is checked.
 pub fn work_out(
-    mode: Mode,
     row: Row,
     nums: &[i32],
     dens: &[u32],
@@ -251,7 +249,7 @@ pub fn work_out(
     i: usize,
 ) -> Worked
     requires { (row.len ≤ 8) × (slots.len ≤ 16) × (some factor_fault (def_of row) ≡ false) × (some (λ f. not (ltb f.row 128)) (def_of row) ≡ false) × (length nums.now ≡ 2048) × (length dens.now ≡ 2048) × (length scales.now ≡ 128) }
-    ensures { (ss : List Slotᵛ) (ks : List Facts) → slots ≡ pack_slots ss → i ≡ length ks → Reaching ks (def_of row) → Filed ks nums.now dens.now → Sized ks scales.now → result ≡ worked_of (worked_out mode ss ks row) }
+    ensures { (ss : List Slotᵛ) (ks : List Facts) → slots ≡ pack_slots ss → i ≡ length ks → Reaching ks (def_of row) → Filed ks nums.now dens.now → Sized ks scales.now → result ≡ worked_of (worked_out ss ks row) }
 {
     let k = row.kind;
     match k {
@@ -267,6 +265,6 @@ pub fn work_out(
                 refusal: 0,
             }
         }
-        Kind::Derived(f) => derived_row(mode, row, nums, dens, scales, slots.len, f),
+        Kind::Derived(f) => derived_row(row, nums, dens, scales, slots.len, f),
     }
 }

@@ -25,11 +25,11 @@ times_comm a b = q≡ (fl.mul_comm_frac a.0 b.0)
 times_assoc : (a b c : Q) → times (times a b) c ≡ times a (times b c)
 times_assoc a b c = q≡ (fl.mul_assoc_frac a.1 b.1 c.1)
 
-times-one : (a : Q) → times a value.one ≡ a
-times-one a = q≡ (fl.mul-unit a.1)
+times_one : (a : Q) → times a value.one ≡ a
+times_one a = q≡ (fl.mul-unit a.1)
 
-one-times : (a : Q) → times value.one a ≡ a
-one-times a = times_comm value.one a ∙ times-one a
+one_times : (a : Q) → times value.one a ≡ a
+one_times a = times_comm value.one a ∙ times_one a
 
 module _ (r : Exponent) (h : Some r) where
   -- r · 1/r is 1
@@ -41,7 +41,7 @@ module _ (r : Exponent) (h : Some r) where
       ∙ sym (fl.mul_is r (invert r)) ∙ fl.mul_inverse h.low h.some)
 
   back : (a : Q) → times (norm (invert r)) (times (norm r) a) ≡ a
-  back a = sym (times_assoc (norm (invert r)) (norm r) a) ∙ ap (λ t. times t a) (times_comm (norm (invert r)) (norm r) ∙ inverse) ∙ one-times a
+  back a = sym (times_assoc (norm (invert r)) (norm r) a) ∙ ap (λ t. times t a) (times_comm (norm (invert r)) (norm r) ∙ inverse) ∙ one_times a
 
   cancels : (a b : Q) → times (norm r) a ≡ times (norm r) b → a ≡ b
   cancels a b e = sym (back a) ∙ ap (times (norm (invert r))) e ∙ back b
@@ -53,7 +53,7 @@ module _ (r : Exponent) (h : Some r) where
       sym (times_assoc (norm r) (norm (div e r)) a)
       ∙ ap (λ t. times t a)
       (ap (times (norm r)) (mul_norm e (invert r) i ∙ times_comm (norm e) (norm (invert r)))
-      ∙ sym (times_assoc (norm r) (norm (invert r)) (norm e)) ∙ ap (λ t. times t (norm e)) inverse ∙ one-times (norm e))
+      ∙ sym (times_assoc (norm r) (norm (invert r)) (norm e)) ∙ ap (λ t. times t (norm e)) inverse ∙ one_times (norm e))
 
 pub division : Division value
 division = record {
@@ -64,7 +64,7 @@ division = record {
 
 -- exponents of equal products are worth the same, acting crosswise
 pub worth_cross : (r x s y : Exponent) → Low r → Low x → Low s → Low y → mul x r ≡ mul y s → value.act r (worth value x) ≡ value.act s (worth value y)
-worth_cross r x s y hr hx hs hy e = ap (times (norm r)) (times-one (norm x)) ∙ q≡ line ∙ sym (ap (times (norm s)) (times-one (norm y)))
+worth_cross r x s y hr hx hs hy e = ap (times (norm r)) (times_one (norm x)) ∙ q≡ line ∙ sym (ap (times (norm s)) (times_one (norm y)))
   where
     line : mul (norm r).0 (norm x).0 ≡ mul (norm s).0 (norm y).0
     line = ap₂ mul (norm_low r hr) (norm_low x hx) ∙ fl.mul_comm_frac r x ∙ e ∙ fl.mul_comm_frac y s ∙ sym (ap₂ mul (norm_low s hs) (norm_low y hy))

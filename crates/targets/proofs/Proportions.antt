@@ -16,10 +16,10 @@ use Rattle.exponents.proofs.Rationals.{value, nought_low}
 use Rattle.exponents.proofs.Totals.{worth, zero-add, total}
 use Rattle.exponents.proofs.Value.{Value}
 use Rattle.units.specs.declared.Factor.{Factor}
-use Rattle.units.specs.Modes.{Table}
+use Rattle.units.specs.declared.Rows.{Rows}
 use Rattle.keys.specs.Key.{entries, first}
 use Rattle.exponents.specs.Words.{pick, All}
-use Rattle.tables.specs.Rows.{Facts, nobody, exp_at, places, slots, rows_in, admitted, admit}
+use Rattle.tables.specs.Rows.{Facts, nobody, exp_at, places, slots, rows_of, admitted, admit}
 use Rattle.tables.specs.Rules.{Rules, rules_in}
 use Rattle.tables.specs.Order.{key_order, atom, of}
 use Rattle.tables.proofs.Alike.{table_sound, alike}
@@ -118,12 +118,12 @@ pub record Keyed (ks : List Facts) (k : List (ℕ × ℤ)) (r : ℕ) : Type 0 wh
 abbrev lead_in : List Facts → ℕ → Exponent
 lead_in ks r = first (get_or ks r nobody).exps
 
-module _ (t : Table) (ks : List Facts) (a : admit t ≡ admitted ks) where
-  within : (r : ℕ) → r < length ks → r < length (rows_in t)
-  within r h = omega (arith, table-length t.mode (slots (rows_in t)) (rows_in t) ks (admit-rows t ks a))
+module _ (t : Rows) (ks : List Facts) (a : admit t ≡ admitted ks) where
+  within : (r : ℕ) → r < length ks → r < length (rows_of t)
+  within r h = omega (arith, table-length (slots (rows_of t)) (rows_of t) ks (admit-rows t ks a))
 
   low : (r : ℕ) → r < length ks → All Low (get_or ks r nobody).exps
-  low r h = all_imp (get_or ks r nobody).exps (λ x s. s.low) (table_sound t.mode (slots (rows_in t)) (rows_in t) ks (admit-rows t ks a) nil_row r (within r h)).each
+  low r h = all_imp (get_or ks r nobody).exps (λ x s. s.low) (table_sound (slots (rows_of t)) (rows_of t) ks (admit-rows t ks a) nil_row r (within r h)).each
 
   some_lead : (r : ℕ) → r < length ks → Some (lead_in ks r)
   some_lead r h = first_Some (get_or ks r nobody).exps (low r h)
@@ -142,12 +142,12 @@ module _ (t : Table) (ks : List Facts) (a : admit t ≡ admitted ks) where
   rows_like r s p q e b =
       worth_cross (lead_in ks r) (exp_at ks b s) (lead_in ks s) (exp_at ks b r)
       (some_lead r p).low (at_low s q b) (some_lead s q).low (at_low r p b)
-      (alike t.mode (slots (rows_in t)) (rows_in t) ks (admit-rows t ks a) nil_row s r (within s q) (within r p) (sym e) b)
+      (alike (slots (rows_of t)) (rows_of t) ks (admit-rows t ks a) nil_row s r (within s q) (within r p) (sym e) b)
 
   -- THEOREM: a group of rows of one key keeps its base exponents
   module _ (k : List (ℕ × ℤ)) where
     all_like : (r s : ℕ) → Keyed ks k r → Keyed ks k s → All (λ b. Likeness value (lead_in ks) b r s) (rules_in t ks).bases
-    all_like r s p q = go (places 0 (length (slots (rows_in t))))
+    all_like r s p q = go (places 0 (length (slots (rows_of t))))
       where
         go : (ps : List ℕ) → All (λ b. Likeness value (lead_in ks) b r s) (map (exp_at ks) ps)
         go [] = tt

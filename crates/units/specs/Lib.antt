@@ -1,4 +1,3 @@
-pub mod Held
-pub mod Lists
-pub mod Modes
 pub mod Prefixes
+pub mod Lists
+pub mod Held

@@ -1,10 +1,9 @@
 // The records of units and quantities (01, "Records and sizes"), and what needs no table: prefixes and lists of factors.
-// `prefixes`: `prefix_factor`. `lists`: `list_fault`, `product`, `quotient`, `list_power`. `modes`: `PLAIN`.
+// `prefixes`: `prefix_factor`. `lists`: `list_fault`, `product`, `quotient`, `list_power`.
 use exponents::Exponent;
 
 pub mod prefixes; // their rule and their factor
 pub mod lists; // lists of factors: shape, product, quotient, power
-pub mod modes; // by which rules a table is read
 
 // Any bits may stand in these records. A struct's array comes first.
 
@@ -70,11 +69,4 @@ pub struct Candidate {
 pub struct Candidates {
     pub at: [Candidate; 32],
     pub len: usize,
-}
-
-// By which rules a table and its lists are read (02, order 6).
-#[derive(Drop)]
-pub struct Mode {
-    // scales have square and cube roots
-    pub roots: bool,
 }

@@ -10,7 +10,7 @@ use Rattle.exponents.proofs.Numbers.{Refuses, refuses}
 use Rattle.floats.specs.Values.{is_zero}
 use Rattle.units.specs.declared.Factor.{Factor}
 use Rattle.units.specs.declared.Quantity.{Quantity}
-use Rattle.units.specs.Modes.{Table}
+use Rattle.units.specs.declared.Rows.{Rows}
 use Rattle.units.specs.Lists.{both, joined, inverted, quotient}
 use Rattle.units.proofs.Checked.{both_pass}
 use Rattle.tables.specs.declared.Admitted.{Admitted}
@@ -20,7 +20,7 @@ use Rattle.lists.proofs.Ends.{bind_refuses}
 use Rattle.values.specs.Quantities.{fresh}
 use Rattle.values.specs.Calls.{checked_div}
 
-module _ (t : Table) (q p : Quantity) (x : Admitted) (k : Accepted (base_rows t) (admit t) x) where
+module _ (t : Rows) (q p : Quantity) (x : Admitted) (k : Accepted (base_rows t) (admit t) x) where
   -- what is done of a list, where the divisor may be zero
   abbrev unless_zero : Bool → Outcome (List Factor) → Outcome Quantity
   unless_zero z o = unless z DIVZERO (apply (fresh (div binary64 q.value p.value)) o)

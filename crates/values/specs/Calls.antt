@@ -7,13 +7,13 @@ use Rattle.floats.specs.Values.{is_zero, abs_of}
 use Rattle.units.specs.declared.Factor.{Factor}
 use Rattle.units.specs.declared.Factors.{Factors}
 use Rattle.units.specs.declared.Quantity.{Quantity}
-use Rattle.units.specs.Modes.{Table}
+use Rattle.units.specs.declared.Rows.{Rows}
 use Rattle.units.specs.Lists.{checked, both, joined, inverted}
 use Rattle.tables.specs.Rows.{table}
 use Rattle.lists.specs.Calls as lists
 use Rattle.values.specs.Quantities.{made, fresh}
 
-module _ (t : Table) where
+module _ (t : Rows) where
   -- a list of the table
   unfoldable pub listed : Factors → Outcome (List Factor)
   listed l = bind (table t) (λ ks. checked (length ks) l)

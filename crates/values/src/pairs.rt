@@ -1,6 +1,6 @@
 // Product and quotient of quantities (01, "Conversion, sums, comparison", "The refusals", last sentence of "Canonical form"). `_over`: over a table that is checked.
 ghost use Rattle.std.specs.Prelude.{◌≡◌};
-ghost use Rattle.units.specs.Modes.{plain, Table, in_mode};
+ghost use Rattle.units.specs.declared.Rows.{Rows as Rowsᵛ};
 ghost use Rattle.tables.specs.Rows.{admit, base_rows};
 ghost use Rattle.tables.specs.Held.{admitted_of};
 ghost use Rattle.values.specs.Quantities.{answered_of};
@@ -10,10 +10,10 @@ use super::answers;
 use super::answers::Answer;
 use exponents::refusals::DIVZERO;
 use tables::Admitted;
-use units::{Mode, Quantity, Rows};
+use units::{Quantity, Rows};
 
 pub fn multiply_over(t: Admitted, q: Quantity, p: Quantity) -> Answer
-    ensures { (rows : Table) → t ≡ admitted_of (base_rows rows) (admit rows) → result ≡ answered_of (spec.multiply rows q p) }
+    ensures { (rows : Rowsᵛ) → t ≡ admitted_of (base_rows rows) (admit rows) → result ≡ answered_of (spec.multiply rows q p) }
 {
     let u = q.unit;
     let w = p.unit;
@@ -25,22 +25,16 @@ pub fn multiply_over(t: Admitted, q: Quantity, p: Quantity) -> Answer
     answers::with_mark(q.value * p.value, l, true)
 }
 
-pub fn multiply_in(mode: Mode, rows: Rows, q: Quantity, p: Quantity) -> Answer
-    ensures { result ≡ answered_of (spec.multiply (in_mode mode rows) q p) }
-{
-    let t = lists::opening::admitted(mode, rows);
-    multiply_over(t, q, p)
-}
-
 pub fn multiply(rows: Rows, q: Quantity, p: Quantity) -> Answer
-    ensures { result ≡ answered_of (spec.multiply (in_mode plain rows) q p) }
+    ensures { result ≡ answered_of (spec.multiply rows q p) }
 {
-    multiply_in(units::modes::PLAIN, rows, q, p)
+    let t = lists::opening::admitted(rows);
+    multiply_over(t, q, p)
 }
 
 // The divisor's value is looked at after both lists, and before their joined length.
 pub fn checked_div_over(t: Admitted, q: Quantity, p: Quantity) -> Answer
-    ensures { (rows : Table) → t ≡ admitted_of (base_rows rows) (admit rows) → result ≡ answered_of (spec.checked_div rows q p) }
+    ensures { (rows : Rowsᵛ) → t ≡ admitted_of (base_rows rows) (admit rows) → result ≡ answered_of (spec.checked_div rows q p) }
 {
     if t.refusal != 0 {
         return answers::refused(t.refusal);
@@ -62,15 +56,9 @@ pub fn checked_div_over(t: Admitted, q: Quantity, p: Quantity) -> Answer
     answers::with_mark(q.value / p.value, l, true)
 }
 
-pub fn checked_div_in(mode: Mode, rows: Rows, q: Quantity, p: Quantity) -> Answer
-    ensures { result ≡ answered_of (spec.checked_div (in_mode mode rows) q p) }
-{
-    let t = lists::opening::admitted(mode, rows);
-    checked_div_over(t, q, p)
-}
-
 pub fn checked_div(rows: Rows, q: Quantity, p: Quantity) -> Answer
-    ensures { result ≡ answered_of (spec.checked_div (in_mode plain rows) q p) }
+    ensures { result ≡ answered_of (spec.checked_div rows q p) }
 {
-    checked_div_in(units::modes::PLAIN, rows, q, p)
+    let t = lists::opening::admitted(rows);
+    checked_div_over(t, q, p)
 }

@@ -1,7 +1,7 @@
 // Calls on one quantity: negation, `abs`, `no_simplify`, reduction (01, "What we take", "Records and sizes", "Powers and scales"). `_over`: over a table that is checked, or a list that is opened.
 ghost use Rattle.std.specs.Prelude.{◌≡◌, []};
+ghost use Rattle.units.specs.declared.Rows.{Rows as Rowsᵛ};
 ghost use Rattle.units.specs.Lists.{pack, made_of};
-ghost use Rattle.units.specs.Modes.{plain, Table, in_mode};
 ghost use Rattle.tables.specs.Rows.{admit, base_rows};
 ghost use Rattle.tables.specs.Held.{admitted_of};
 ghost use Rattle.lists.specs.Held.{Opens};
@@ -13,11 +13,11 @@ use super::answers::Answer;
 use lists::opening::Opened;
 use tables::Admitted;
 use units::lists::Made;
-use units::{Factors, Mode, Quantity, Rows};
+use units::{Factors, Quantity, Rows};
 
 // A list of a table, checked, its places past the end clean.
 pub fn listed_over(t: Admitted, l: Factors) -> Made
-    ensures { (rows : Table) → t ≡ admitted_of (base_rows rows) (admit rows) → result ≡ made_of (spec.listed rows l) }
+    ensures { (rows : Rowsᵛ) → t ≡ admitted_of (base_rows rows) (admit rows) → result ≡ made_of (spec.listed rows l) }
 {
     if t.refusal != 0 {
         return units::lists::refused(t.refusal);
@@ -34,21 +34,15 @@ pub fn listed_over(t: Admitted, l: Factors) -> Made
     }
 }
 
-pub fn listed_in(mode: Mode, rows: Rows, l: Factors) -> Made
-    ensures { result ≡ made_of (spec.listed (in_mode mode rows) l) }
+pub fn listed(rows: Rows, l: Factors) -> Made
+    ensures { result ≡ made_of (spec.listed rows l) }
 {
-    let t = lists::opening::admitted(mode, rows);
+    let t = lists::opening::admitted(rows);
     listed_over(t, l)
 }
 
-pub fn listed(rows: Rows, l: Factors) -> Made
-    ensures { result ≡ made_of (spec.listed (in_mode plain rows) l) }
-{
-    listed_in(units::modes::PLAIN, rows, l)
-}
-
 pub fn negate_over(t: Admitted, q: Quantity) -> Answer
-    ensures { (rows : Table) → t ≡ admitted_of (base_rows rows) (admit rows) → result ≡ answered_of (spec.negate rows q) }
+    ensures { (rows : Rowsᵛ) → t ≡ admitted_of (base_rows rows) (admit rows) → result ≡ answered_of (spec.negate rows q) }
 {
     let u = q.unit;
     let m = listed_over(t, u);
@@ -59,21 +53,15 @@ pub fn negate_over(t: Admitted, q: Quantity) -> Answer
     answers::with_mark(-q.value, l, true)
 }
 
-pub fn negate_in(mode: Mode, rows: Rows, q: Quantity) -> Answer
-    ensures { result ≡ answered_of (spec.negate (in_mode mode rows) q) }
+pub fn negate(rows: Rows, q: Quantity) -> Answer
+    ensures { result ≡ answered_of (spec.negate rows q) }
 {
-    let t = lists::opening::admitted(mode, rows);
+    let t = lists::opening::admitted(rows);
     negate_over(t, q)
 }
 
-pub fn negate(rows: Rows, q: Quantity) -> Answer
-    ensures { result ≡ answered_of (spec.negate (in_mode plain rows) q) }
-{
-    negate_in(units::modes::PLAIN, rows, q)
-}
-
 pub fn abs_over(t: Admitted, q: Quantity) -> Answer
-    ensures { (rows : Table) → t ≡ admitted_of (base_rows rows) (admit rows) → result ≡ answered_of (spec.magnitude rows q) }
+    ensures { (rows : Rowsᵛ) → t ≡ admitted_of (base_rows rows) (admit rows) → result ≡ answered_of (spec.magnitude rows q) }
 {
     let u = q.unit;
     let m = listed_over(t, u);
@@ -84,21 +72,15 @@ pub fn abs_over(t: Admitted, q: Quantity) -> Answer
     answers::with_mark(floats::abs(q.value), l, true)
 }
 
-pub fn abs_in(mode: Mode, rows: Rows, q: Quantity) -> Answer
-    ensures { result ≡ answered_of (spec.magnitude (in_mode mode rows) q) }
+pub fn abs(rows: Rows, q: Quantity) -> Answer
+    ensures { result ≡ answered_of (spec.magnitude rows q) }
 {
-    let t = lists::opening::admitted(mode, rows);
+    let t = lists::opening::admitted(rows);
     abs_over(t, q)
 }
 
-pub fn abs(rows: Rows, q: Quantity) -> Answer
-    ensures { result ≡ answered_of (spec.magnitude (in_mode plain rows) q) }
-{
-    abs_in(units::modes::PLAIN, rows, q)
-}
-
 pub fn no_simplify_over(t: Admitted, q: Quantity) -> Answer
-    ensures { (rows : Table) → t ≡ admitted_of (base_rows rows) (admit rows) → result ≡ answered_of (spec.no_simplify rows q) }
+    ensures { (rows : Rowsᵛ) → t ≡ admitted_of (base_rows rows) (admit rows) → result ≡ answered_of (spec.no_simplify rows q) }
 {
     let u = q.unit;
     let m = listed_over(t, u);
@@ -109,21 +91,15 @@ pub fn no_simplify_over(t: Admitted, q: Quantity) -> Answer
     answers::with_mark(q.value, l, false)
 }
 
-pub fn no_simplify_in(mode: Mode, rows: Rows, q: Quantity) -> Answer
-    ensures { result ≡ answered_of (spec.no_simplify (in_mode mode rows) q) }
+pub fn no_simplify(rows: Rows, q: Quantity) -> Answer
+    ensures { result ≡ answered_of (spec.no_simplify rows q) }
 {
-    let t = lists::opening::admitted(mode, rows);
+    let t = lists::opening::admitted(rows);
     no_simplify_over(t, q)
 }
 
-pub fn no_simplify(rows: Rows, q: Quantity) -> Answer
-    ensures { result ≡ answered_of (spec.no_simplify (in_mode plain rows) q) }
-{
-    no_simplify_in(units::modes::PLAIN, rows, q)
-}
-
 pub fn reduce_over(o: Opened, q: Quantity, nums: &[i32], dens: &[u32]) -> Answer
-    ensures { (rows : Table) → Opens rows q.unit (pack []) o nums.now dens.now → result ≡ answered_of (spec.reduce rows q) }
+    ensures { (rows : Rowsᵛ) → Opens rows q.unit (pack []) o nums.now dens.now → result ≡ answered_of (spec.reduce rows q) }
 {
     let x = lists::reductions::reduce_list_over(o, nums, dens);
     if x.refusal != 0 {
@@ -134,19 +110,13 @@ pub fn reduce_over(o: Opened, q: Quantity, nums: &[i32], dens: &[u32]) -> Answer
 }
 
 // `to_base_unit_representation`
-pub fn reduce_in(mode: Mode, rows: Rows, q: Quantity) -> Answer
-    ensures { result ≡ answered_of (spec.reduce (in_mode mode rows) q) }
+pub fn reduce(rows: Rows, q: Quantity) -> Answer
+    ensures { result ≡ answered_of (spec.reduce rows q) }
 {
     let mut nums = [0i32; 2048];
     let mut dens = [1u32; 2048];
     let u = q.unit;
     let none = units::lists::empty();
-    let o = lists::opening::open_lists(mode, rows, u, none, &mut nums, &mut dens);
+    let o = lists::opening::open_lists(rows, u, none, &mut nums, &mut dens);
     reduce_over(o, q, &nums, &dens)
-}
-
-pub fn reduce(rows: Rows, q: Quantity) -> Answer
-    ensures { result ≡ answered_of (spec.reduce (in_mode plain rows) q) }
-{
-    reduce_in(units::modes::PLAIN, rows, q)
 }

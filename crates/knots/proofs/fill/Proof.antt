@@ -6,7 +6,7 @@ use borrow.Author.Tests.{not-false}
 use Prim.Native.Nat.{◌+◌, ◌*◌, ◌-◌, ◌≤◌, ◌<◌}
 use native.Mathlib.Omega.{arith}
 use lib.ListN.{length, length-set}
-use Rattle.units.specs.Modes.{Table}
+use Rattle.units.specs.declared.Rows.{Rows}
 use Rattle.tables.specs.Held.{Admits}
 use Rattle.knots.proofs.Filling.{Hand, Serves, hand_start, serves_alike, serves_turned, Upto, upto_none, upto_on, upto_stop, upto_all}
 use Rattle.knots.proofs.fill.Statement.{statement}
@@ -15,7 +15,7 @@ use Rattle.knots.proofs.fill.Tie as tie
 abbrev invariant-loop : tie.invariant-loop
 invariant-loop t nums dens scales ranks based knots n target values₀ rate₀ place₀ shelf₀ i₀ values rate place shelf i =
     (i ≤ n) × (length values ≡ length values₀) × Hand (λ rows. Admits rows t nums dens scales ranks based) target knots rate place shelf
-    × ((rows : Table) → Admits rows t nums dens scales ranks based → Upto rows target knots n i values)
+    × ((rows : Rows) → Admits rows t nums dens scales ranks based → Upto rows target knots n i values)
 
 abbrev decreases-loop : tie.decreases-loop
 decreases-loop t nums dens scales ranks based knots n target values₀ rate₀ place₀ shelf₀ i₀ values rate place shelf i = n - i

@@ -2,7 +2,6 @@
 use mathlib.Core.Path.{◌≡◌}
 use base.Logic.{emp}
 use contract.Monad.{fact}
-use Rattle.units.specs.Modes.{in_mode, plain}
 use Rattle.values.specs.Quantities.{answered_of}
 use Rattle.values.specs.Calls.{checked_div}
 use Rattle.lent.proofs.Copiers.{rows}
@@ -17,5 +16,5 @@ use Rattle.lentcalls.proofs.checked_div.Code as code
 pub checked-div-spec : {M : Type 1} → stated.statement M
 unfolding code.routine
 checked-div-spec 𝓤 𝓛 𝓜 𝓡 =
-    thin2 rows 𝓛 𝓜 𝓡 quantity quantity answer (λ t q p. emp 𝓤) (λ t q p r. fact 𝓤 (r ≡ answered_of (checked_div (in_mode plain t) q p)))
+    thin2 rows 𝓛 𝓜 𝓡 quantity quantity answer (λ t q p. emp 𝓤) (λ t q p r. fact 𝓤 (r ≡ answered_of (checked_div t q p)))
     code.env key.name symbol.name symbol.routine code.calls-lent::rows-of code.calls-values::pairs::checked-div (done.met 𝓤 𝓛 𝓜 𝓡) (code.unfolded 𝓤 𝓛.H 𝓜 𝓡)

@@ -2,7 +2,6 @@
 use mathlib.Core.Path.{◌≡◌}
 use base.Logic.{emp}
 use contract.Monad.{fact}
-use Rattle.units.specs.Modes.{in_mode, plain}
 use Rattle.quantities.specs.Comparisons.{compared_of}
 use Rattle.quantities.specs.Calls.{compare}
 use Rattle.lent.proofs.Copiers.{rows}
@@ -17,5 +16,5 @@ use Rattle.lentcalls.proofs.compare.Code as code
 pub compare-spec : {M : Type 1} → stated.statement M
 unfolding code.routine
 compare-spec 𝓤 𝓛 𝓜 𝓡 =
-    thin2 rows 𝓛 𝓜 𝓡 quantity quantity compared (λ t q p. emp 𝓤) (λ t q p r. fact 𝓤 (r ≡ compared_of (compare (in_mode plain t) q p)))
+    thin2 rows 𝓛 𝓜 𝓡 quantity quantity compared (λ t q p. emp 𝓤) (λ t q p r. fact 𝓤 (r ≡ compared_of (compare t q p)))
     code.env key.name symbol.name symbol.routine code.calls-lent::rows-of code.calls-quantities::comparisons::compare (done.met 𝓤 𝓛 𝓜 𝓡) (code.unfolded 𝓤 𝓛.H 𝓜 𝓡)

@@ -2,7 +2,6 @@
 use mathlib.Core.Path.{◌≡◌}
 use base.Logic.{emp}
 use contract.Monad.{fact}
-use Rattle.units.specs.Modes.{in_mode, plain}
 use Rattle.values.specs.Quantities.{answered_of}
 use Rattle.quantities.specs.Calls.{convert_to}
 use Rattle.lent.proofs.Copiers.{rows}
@@ -17,5 +16,5 @@ use Rattle.lentcalls.proofs.convert_to.Code as code
 pub convert-to-spec : {M : Type 1} → stated.statement M
 unfolding code.routine
 convert-to-spec 𝓤 𝓛 𝓜 𝓡 =
-    thin2 rows 𝓛 𝓜 𝓡 quantity list answer (λ t q l. emp 𝓤) (λ t q l r. fact 𝓤 (r ≡ answered_of (convert_to (in_mode plain t) q l)))
+    thin2 rows 𝓛 𝓜 𝓡 quantity list answer (λ t q l. emp 𝓤) (λ t q l r. fact 𝓤 (r ≡ answered_of (convert_to t q l)))
     code.env key.name symbol.name symbol.routine code.calls-lent::rows-of code.calls-quantities::conversions::convert-to (done.met 𝓤 𝓛 𝓜 𝓡) (code.unfolded 𝓤 𝓛.H 𝓜 𝓡)

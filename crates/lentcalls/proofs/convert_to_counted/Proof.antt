@@ -2,7 +2,6 @@
 use mathlib.Core.Path.{◌≡◌}
 use base.Logic.{emp}
 use contract.Monad.{fact}
-use Rattle.units.specs.Modes.{in_mode, plain}
 use Rattle.counted.specs.Calls.{counted_of, convert_to_counted}
 use Rattle.lent.proofs.Copiers.{rows}
 use Rattle.lent.proofs.Thin2.{thin2}
@@ -16,5 +15,5 @@ use Rattle.lentcalls.proofs.convert_to_counted.Code as code
 pub convert-to-counted-spec : {M : Type 1} → stated.statement M
 unfolding code.routine
 convert-to-counted-spec 𝓤 𝓛 𝓜 𝓡 =
-    thin2 rows 𝓛 𝓜 𝓡 quantity list counted (λ t q l. emp 𝓤) (λ t q l r. fact 𝓤 (r ≡ counted_of (convert_to_counted (in_mode plain t) q l)))
+    thin2 rows 𝓛 𝓜 𝓡 quantity list counted (λ t q l. emp 𝓤) (λ t q l r. fact 𝓤 (r ≡ counted_of (convert_to_counted t q l)))
     code.env key.name symbol.name symbol.routine code.calls-lent::rows-of code.calls-counted::convert-to-counted (done.met 𝓤 𝓛 𝓜 𝓡) (code.unfolded 𝓤 𝓛.H 𝓜 𝓡)

@@ -2,7 +2,6 @@
 use mathlib.Core.Path.{◌≡◌}
 use base.Logic.{emp}
 use contract.Monad.{fact}
-use Rattle.units.specs.Modes.{in_mode, plain}
 use Rattle.values.specs.Quantities.{answered_of}
 use Rattle.registry.specs.Calls.{full_simplify_with}
 use Rattle.lent.proofs.Copiers.{rows, candidates}
@@ -17,5 +16,5 @@ use Rattle.lentcalls.proofs.full_simplify_with.Code as code
 pub full-simplify-with-spec : {M : Type 1} → stated.statement M
 unfolding code.routine
 full-simplify-with-spec 𝓤 𝓛 𝓜 𝓡 =
-    thin_lpl rows candidates 𝓛 𝓜 𝓡 quantity answer (λ t q c. emp 𝓤) (λ t q c r. fact 𝓤 (r ≡ answered_of (full_simplify_with (in_mode plain t) q c)))
+    thin_lpl rows candidates 𝓛 𝓜 𝓡 quantity answer (λ t q c. emp 𝓤) (λ t q c r. fact 𝓤 (r ≡ answered_of (full_simplify_with t q c)))
     code.env key.name symbol.name symbol.routine code.calls-lent::rows-of code.calls-lent::candidates-of code.calls-registry::full-simplify-with (done.met 𝓤 𝓛 𝓜 𝓡) (code.unfolded 𝓤 𝓛.H 𝓜 𝓡)

@@ -2,7 +2,6 @@
 use mathlib.Core.Path.{◌≡◌}
 use base.Logic.{emp}
 use contract.Monad.{fact}
-use Rattle.units.specs.Modes.{in_mode, plain}
 use Rattle.reduction.specs.Multiple.{multiple_is}
 use Rattle.lists.specs.Calls.{multiple}
 use Rattle.lent.proofs.Copiers.{rows}
@@ -17,5 +16,5 @@ use Rattle.lentcalls.proofs.is_multiple_of.Code as code
 pub is-multiple-of-spec : {M : Type 1} → stated.statement M
 unfolding code.routine
 is-multiple-of-spec 𝓤 𝓛 𝓜 𝓡 =
-    thin2 rows 𝓛 𝓜 𝓡 list list multiples (λ t a b. emp 𝓤) (λ t a b r. fact 𝓤 (r ≡ multiple_is (multiple (in_mode plain t) a b)))
+    thin2 rows 𝓛 𝓜 𝓡 list list multiples (λ t a b. emp 𝓤) (λ t a b r. fact 𝓤 (r ≡ multiple_is (multiple t a b)))
     code.env key.name symbol.name symbol.routine code.calls-lent::rows-of code.calls-lists::reductions::is-multiple-of (done.met 𝓤 𝓛 𝓜 𝓡) (code.unfolded 𝓤 𝓛.H 𝓜 𝓡)

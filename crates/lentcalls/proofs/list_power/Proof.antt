@@ -2,7 +2,6 @@
 use mathlib.Core.Path.{◌≡◌}
 use base.Logic.{emp}
 use contract.Monad.{fact}
-use Rattle.units.specs.Modes.{in_mode, plain}
 use Rattle.units.specs.Lists.{made_of}
 use Rattle.lists.specs.Calls.{list_power}
 use Rattle.lent.proofs.Copiers.{rows}
@@ -17,5 +16,5 @@ use Rattle.lentcalls.proofs.list_power.Code as code
 pub list-power-spec : {M : Type 1} → stated.statement M
 unfolding code.routine
 list-power-spec 𝓤 𝓛 𝓜 𝓡 =
-    thin2 rows 𝓛 𝓜 𝓡 list exponent made (λ t a e. emp 𝓤) (λ t a e r. fact 𝓤 (r ≡ made_of (list_power (in_mode plain t) a e)))
+    thin2 rows 𝓛 𝓜 𝓡 list exponent made (λ t a e. emp 𝓤) (λ t a e r. fact 𝓤 (r ≡ made_of (list_power t a e)))
     code.env key.name symbol.name symbol.routine code.calls-lent::rows-of code.calls-lists::joins::list-power (done.met 𝓤 𝓛 𝓜 𝓡) (code.unfolded 𝓤 𝓛.H 𝓜 𝓡)

@@ -2,7 +2,6 @@
 use mathlib.Core.Path.{◌≡◌}
 use base.Logic.{emp}
 use contract.Monad.{fact}
-use Rattle.units.specs.Modes.{in_mode, plain}
 use Rattle.values.specs.Quantities.{answered_of}
 use Rattle.values.specs.Calls.{negate}
 use Rattle.lent.proofs.Copiers.{rows}
@@ -17,5 +16,5 @@ use Rattle.lentcalls.proofs.negate.Code as code
 pub negate-spec : {M : Type 1} → stated.statement M
 unfolding code.routine
 negate-spec 𝓤 𝓛 𝓜 𝓡 =
-    thin1 rows 𝓛 𝓜 𝓡 quantity answer (λ t q. emp 𝓤) (λ t q r. fact 𝓤 (r ≡ answered_of (negate (in_mode plain t) q)))
+    thin1 rows 𝓛 𝓜 𝓡 quantity answer (λ t q. emp 𝓤) (λ t q r. fact 𝓤 (r ≡ answered_of (negate t q)))
     code.env key.name symbol.name symbol.routine code.calls-lent::rows-of code.calls-values::single::negate (done.met 𝓤 𝓛 𝓜 𝓡) (code.unfolded 𝓤 𝓛.H 𝓜 𝓡)

@@ -2,7 +2,6 @@
 use mathlib.Core.Path.{◌≡◌}
 use base.Logic.{emp}
 use contract.Monad.{fact}
-use Rattle.units.specs.Modes.{in_mode, plain}
 use Rattle.reduction.specs.Reduction.{reduced_of}
 use Rattle.lists.specs.Calls.{reduction}
 use Rattle.lent.proofs.Copiers.{rows}
@@ -17,5 +16,5 @@ use Rattle.lentcalls.proofs.reduce_list.Code as code
 pub reduce-list-spec : {M : Type 1} → stated.statement M
 unfolding code.routine
 reduce-list-spec 𝓤 𝓛 𝓜 𝓡 =
-    thin1 rows 𝓛 𝓜 𝓡 list reduced (λ t l. emp 𝓤) (λ t l r. fact 𝓤 (r ≡ reduced_of (reduction (in_mode plain t) l)))
+    thin1 rows 𝓛 𝓜 𝓡 list reduced (λ t l. emp 𝓤) (λ t l r. fact 𝓤 (r ≡ reduced_of (reduction t l)))
     code.env key.name symbol.name symbol.routine code.calls-lent::rows-of code.calls-lists::reductions::reduce-list (done.met 𝓤 𝓛 𝓜 𝓡) (code.unfolded 𝓤 𝓛.H 𝓜 𝓡)

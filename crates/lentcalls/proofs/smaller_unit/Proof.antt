@@ -2,7 +2,6 @@
 use mathlib.Core.Path.{◌≡◌}
 use base.Logic.{emp}
 use contract.Monad.{fact}
-use Rattle.units.specs.Modes.{in_mode, plain}
 use Rattle.units.specs.Lists.{made_of}
 use Rattle.lists.specs.Calls.{smaller_unit}
 use Rattle.lent.proofs.Copiers.{rows}
@@ -17,5 +16,5 @@ use Rattle.lentcalls.proofs.smaller_unit.Code as code
 pub smaller-unit-spec : {M : Type 1} → stated.statement M
 unfolding code.routine
 smaller-unit-spec 𝓤 𝓛 𝓜 𝓡 =
-    thin2 rows 𝓛 𝓜 𝓡 list list made (λ t a b. emp 𝓤) (λ t a b r. fact 𝓤 (r ≡ made_of (smaller_unit (in_mode plain t) a b)))
+    thin2 rows 𝓛 𝓜 𝓡 list list made (λ t a b. emp 𝓤) (λ t a b r. fact 𝓤 (r ≡ made_of (smaller_unit t a b)))
     code.env key.name symbol.name symbol.routine code.calls-lent::rows-of code.calls-lists::reductions::smaller-unit (done.met 𝓤 𝓛 𝓜 𝓡) (code.unfolded 𝓤 𝓛.H 𝓜 𝓡)

@@ -1,6 +1,5 @@
 -- `read_table` meets its contract, by lentwrites' `Into0`.
 use mathlib.Core.Path.{◌≡◌}
-use Rattle.units.specs.Modes.{plain}
 use Rattle.lentwrites.proofs.Into0.{into0}
 use Rattle.lentwrites.proofs.Rowed.{laid-rows}
 use Rattle.lentwrites.proofs.put_rows.Symbol as put-symbol
@@ -18,5 +17,5 @@ use Rattle.lentfiles.proofs.read_table.Code as code
 pub read-table-spec : {M : Type 1} → stated.statement M
 unfolding code.routine
 read-table-spec 𝓤 𝓛 𝓜 𝓡 =
-    into0 laid-rows told read (λ s n d. d ≡ read_of (read_table plain n s)) (Reads plain) (read_follows plain) 𝓛 𝓜 𝓡
+    into0 laid-rows told read (λ s n d. d ≡ read_of (read_table n s)) Reads read_follows 𝓛 𝓜 𝓡
     code.env key.name put-symbol.name symbol.name put-symbol.routine symbol.routine code.calls-lentwrites::put-rows code.calls-tablefiles::read-table (put-done.met 𝓤 𝓛 𝓜 𝓡) (done.met 𝓤 𝓛 𝓜 𝓡) (code.unfolded 𝓤 𝓛.H 𝓜 𝓡)

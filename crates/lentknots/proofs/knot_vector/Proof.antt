@@ -1,6 +1,5 @@
 -- `knot_vector` meets its contract, by `ThinLSPMM`.
 use denote.Builtin.{u8, u32, f64}
-use Rattle.units.specs.Modes.{in_mode, plain}
 use Rattle.knots.specs.Held.{Vectored}
 use Rattle.lent.proofs.Copiers.{rows}
 use Rattle.lentknots.proofs.ThinLSPMM.{thin_lspmm}
@@ -14,5 +13,5 @@ use Rattle.lentknots.proofs.knot_vector.Code as code
 pub knot-vector-spec : {M : Type 1} → stated.statement M
 unfolding code.routine
 knot-vector-spec 𝓤 𝓛 𝓜 𝓡 =
-    thin_lspmm rows u8 f64 u32 ruled told (λ t s p fs ks r fs' ks'. Vectored (in_mode plain t) s p r fs fs' ks ks') 𝓛 𝓜 𝓡
+    thin_lspmm rows u8 f64 u32 ruled told (λ t s p fs ks r fs' ks'. Vectored t s p r fs fs' ks ks') 𝓛 𝓜 𝓡
     code.env key.name symbol.name symbol.routine code.calls-lent::rows-of code.calls-knots::knot-vector (done.met 𝓤 𝓛 𝓜 𝓡) (code.unfolded 𝓤 𝓛.H 𝓜 𝓡)

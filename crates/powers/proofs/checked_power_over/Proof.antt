@@ -5,7 +5,7 @@ use Rattle.exponents.proofs.Holds.{bind_given}
 use Rattle.units.specs.declared.Factor.{Factor}
 use Rattle.units.specs.declared.Factors.{Factors}
 use Rattle.units.specs.declared.Quantity.{Quantity}
-use Rattle.units.specs.Modes.{Table}
+use Rattle.units.specs.declared.Rows.{Rows}
 use Rattle.units.specs.Lists.{list_of}
 use Rattle.units.proofs.Laws.{len_pack, list_pack}
 use Rattle.tables.specs.Rows.{Facts}
@@ -22,7 +22,7 @@ use Rattle.quantities.proofs.Converting.{value_given, value_refused, refuses_as}
 use Rattle.powers.proofs.checked_power_over.Statement.{statement}
 use Rattle.powers.proofs.checked_power_over.Tie as tie
 
-abbrev work : Table → Quantity → Quantity → List Facts → List Factor → List Factor → Outcome Quantity
+abbrev work : Rows → Quantity → Quantity → List Facts → List Factor → List Factor → Outcome Quantity
 work t q p ks fs gs = bind (convert (rules_in t ks) gs [] p.value) (λ x. raised_to q.value fs x)
 
 refused-requires : tie.Need-refused-requires

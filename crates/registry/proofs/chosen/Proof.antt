@@ -16,7 +16,7 @@ use Rattle.values.specs.declared.answers.Answer.{Answer}
 use Rattle.values.proofs.Answered.{unanswered}
 use Rattle.simplification.specs.Steps.{Amount, quantity_of}
 use Rattle.registry.specs.Registry.{turn, chosen}
-use Rattle.registry.specs.Held.{Tabled, rules_of, Stored, Checks, Offers, Left, BaseExps, choice_of}
+use Rattle.registry.specs.Held.{Table, rules_of, Stored, Checks, Offers, Left, BaseExps, choice_of}
 use Rattle.registry.specs.declared.Choice.{Choice}
 use Rattle.registry.proofs.GivenLists.{nil_candidate, candidates_few, candidates_long, candidate_at_lem}
 use Rattle.registry.proofs.Choosing.{Underway, underway, turns_end, turns_stop, turns_won, turns_on}
@@ -24,22 +24,22 @@ use Rattle.registry.proofs.chosen.Statement.{statement}
 use Rattle.registry.proofs.chosen.Tie as tie
 
 abbrev invariant-loop : tie.invariant-loop
-invariant-loop mode len n nums dens scales ranks based rest xs s c o₀ i₀ o i = (i ≤ 32) × ((tb : Tabled) (l : Left tb rest) (k : Offers tb c) (x : BaseExps tb xs) → Stored tb mode len n nums dens scales ranks based → Underway (rules_of tb) x.exps s l.amount k.lists o i)
+invariant-loop len n nums dens scales ranks based rest xs s c o₀ i₀ o i = (i ≤ 32) × ((tb : Table) (l : Left tb rest) (k : Offers tb c) (x : BaseExps tb xs) → Stored tb len n nums dens scales ranks based → Underway (rules_of tb) x.exps s l.amount k.lists o i)
 
 abbrev decreases-loop : tie.decreases-loop
-decreases-loop mode len n nums dens scales ranks based rest xs s c o₀ i₀ o i = 32 - i
+decreases-loop len n nums dens scales ranks based rest xs s c o₀ i₀ o i = 32 - i
 
-candidates-full : (c : tie.Start invariant-loop decreases-loop) → length c.args.t12.at ≡ 32
+candidates-full : (c : tie.Start invariant-loop decreases-loop) → length c.args.t11.at ≡ 32
 candidates-full c = search (rules, unmapped)
 
 -- what is asked of the arguments
 module _ (s : tie.Start invariant-loop decreases-loop) where
   record Asked : Type 0 where
-    pub tb : Tabled
+    pub tb : Table
     pub left : Left tb s.args.rest
-    pub offers : Offers tb s.args.t12
+    pub offers : Offers tb s.args.t11
     pub exps : BaseExps tb s.args.xs
-    pub table : Stored tb s.args.mode s.args.len s.args.n s.args.nums.now s.args.dens.now s.args.scales.now s.args.ranks.now s.args.based.now
+    pub table : Stored tb s.args.len s.args.n s.args.nums.now s.args.dens.now s.args.scales.now s.args.ranks.now s.args.based.now
 
   module _ (h : Asked) where
     abbrev ms : List (List Factor)
@@ -53,8 +53,8 @@ module _ (s : tie.Start invariant-loop decreases-loop) where
     abbrev all : Outcome Amount
     all = chosen (rules_of h.tb) h.exps.exps s.args.s h.left.amount h.left.amount ms
 
-    long : length ms ≡ s.args.t12.len
-    long = candidates_long (length h.tb.known) s.args.t12 ms h.offers.are (candidates-full s)
+    long : length ms ≡ s.args.t11.len
+    long = candidates_long (length h.tb.known) s.args.t11 ms h.offers.are (candidates-full s)
 
 -- the turn that code takes, from the start `begin`
 module _ (t : tie.After-turn invariant-loop decreases-loop) where
@@ -74,8 +74,8 @@ module _ (t : tie.After-turn invariant-loop decreases-loop) where
     more : place < length (ms begin h)
     more = omega (arith, long begin h, t.before.before.before.before.if1.left)
 
-    abbrev candidate : Checks h.tb (get_or begin.args.t12.at place nil_candidate).unit
-    candidate = record { factors = get_or (ms begin h) place []; is = candidate_at_lem (length h.tb.known) begin.args.t12 (ms begin h) h.offers.are (candidates-full begin) place _ [] t.before.before.before.before.if1.left }
+    abbrev candidate : Checks h.tb (get_or begin.args.t11.at place nil_candidate).unit
+    candidate = record { factors = get_or (ms begin h) place []; is = candidate_at_lem (length h.tb.known) begin.args.t11 (ms begin h) h.offers.are (candidates-full begin) place _ [] t.before.before.before.before.if1.left }
 
     turned : t.turn.result ≡ choice_of (turn (rules_of h.tb) h.exps.exps begin.args.s h.left.amount so_far.best (get_or (ms begin h) place []))
     turned = t.turn.ensures h.tb h.left so_far.best candidate h.exps so_far.is h.table
@@ -132,7 +132,7 @@ returns-2 c tb l k x g =
     let h : Asked s = record { tb = tb; left = l; offers = k; exps = x; table = g } in
     let u : At s h w.o w.i = w.invariant.1 tb l k x g in
     let n = long s h in
-    let few = candidates_few (length tb.known) s.args.t12 k.lists k.are in
+    let few = candidates_few (length tb.known) s.args.t11 k.lists k.are in
     let end = turns_end (rules_of tb) x.exps s.args.s l.amount k.lists w.o w.i u in
     ⊎_elim
     (λ y. best_of y.1 ∙ end (omega (arith, y.0.left)))

@@ -12,9 +12,9 @@ use Rattle.tables.proofs.Scaling.{value_given, scale_refuses}
 use Rattle.exponents.proofs.Words.{unmapped}
 use Rattle.canonical.specs.Canonical.{same_all}
 use Rattle.reduction.proofs.Handed.{Answered, exps_given, exps_refused}
-use Rattle.registry.specs.Held.{plain_view, Tabled, rules_of, Stored, Checks, BaseExps}
+use Rattle.registry.specs.Held.{plain_view, Table, rules_of, Stored, Checks, BaseExps}
 use Rattle.registry.proofs.GivenLists.{listed, list_long}
-use Rattle.registry.proofs.Looking.{plain_resolved, by_view, keyed, lends_plain, plain-bases, bases-same}
+use Rattle.registry.proofs.Looking.{plain_resolved, keyed, lends_plain, plain-bases, bases-same}
 use Rattle.registry.proofs.Tested.{too_long, no_base, other_units, no_scale, near, not_near}
 use Rattle.registry.proofs.fits.Statement.{statement}
 use Rattle.registry.proofs.fits.Tie as tie
@@ -24,25 +24,25 @@ abbrev begin : tie.After-shared-slice-known4 → tie.Start
 begin c = c.before.before.before.before
 
 -- the list's length
-sized : (c : tie.After-struct-known) {tb : Tabled} (k : Checks tb (begin c.before).args.m) → length k.factors ≡ (begin c.before).args.m.len
+sized : (c : tie.After-struct-known) {tb : Table} (k : Checks tb (begin c.before).args.m) → length k.factors ≡ (begin c.before).args.m.len
 sized c k = list_long (listed k.is) full
   where
     full : length (begin c.before).args.m.at ≡ 16
     full = search (rules, unmapped)
 
-module _ (tb : Tabled) (len : ℕ) where
+module _ (tb : Table) (len : ℕ) where
   -- the table is held
   abbrev Has : tie.Start → Type 0
-  Has s = Stored tb s.args.mode len s.args.n s.args.nums.now s.args.dens.now s.args.scales.now s.args.ranks.now s.args.based.now
+  Has s = Stored tb len s.args.n s.args.nums.now s.args.dens.now s.args.scales.now s.args.ranks.now s.args.based.now
 
   -- the list with what is known of its rows
-  seen : (c : tie.After-plain) → let s = begin c.before.before.before in (k : Checks tb s.args.m) → Has s → Resolved (plain_view tb.rows.mode tb.known k.factors) c.plain.result k.factors
-  seen c k g = plain_resolved (listed k.is) tb.rows.mode tb.known (by_view g k.factors _ (c.plain.ensures tb.known k.factors (keyed tb).few g.paged.sized g.paged.basic k.is))
+  seen : (c : tie.After-plain) → let s = begin c.before.before.before in (k : Checks tb s.args.m) → Has s → Resolved (plain_view tb.known k.factors) c.plain.result k.factors
+  seen c k g = plain_resolved (listed k.is) tb.known (c.plain.ensures tb.known k.factors (keyed tb).few g.paged.sized g.paged.basic k.is)
 
   -- its base exponents, as the code has them
   based : (c : tie.After-base-of) → let s = begin c.before.before.before.before in (k : Checks tb s.args.m) → Has s → c.base-of.result ≡ exps_of (base (rules_of tb).bases k.factors)
   based c k g =
-      c.base-of.ensures (plain_view tb.rows.mode tb.known k.factors) k.factors (lends_plain g k.factors) (seen c.before k g)
+      c.base-of.ensures (plain_view tb.known k.factors) k.factors (lends_plain g k.factors) (seen c.before k g)
       ∙ ap (λ bs. exps_of (base bs k.factors)) (plain-bases g k.factors)
 
   answered : (c : tie.Else2) → let b = c.before.before in let s = begin b.before.before.before.before in (k : Checks tb s.args.m) → Has s → Answered (base (rules_of tb).bases k.factors) b.base-of.result
@@ -54,7 +54,7 @@ module _ (tb : Tabled) (len : ℕ) where
 
   -- its scale, as the code has it
   scaled : (c : tie.After-scale-from) → let l = c.before.before.before.before.before.before.before in let s = begin l.before.before.before in (k : Checks tb s.args.m) → Has s → c.scale-from.result ≡ scaled_of (scale_by (rules_of tb) k.factors)
-  scaled c k g = c.scale-from.ensures (plain_view tb.rows.mode tb.known k.factors) k.factors (seen c.before.before.before.before.before.before.before k g)
+  scaled c k g = c.scale-from.ensures (plain_view tb.known k.factors) k.factors (seen c.before.before.before.before.before.before.before k g)
 
 returns : tie.Need-returns
 returns c tb len k x g =

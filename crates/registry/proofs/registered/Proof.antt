@@ -26,9 +26,9 @@ use Rattle.quantities.proofs.Converting.{value_given, value_refused}
 use Rattle.values.specs.Quantities.{answered_of}
 use Rattle.values.proofs.Answered.{unanswered}
 use Rattle.registry.specs.Registry.{near_one, is_single}
-use Rattle.registry.specs.Held.{plain_view, Tabled, rules_of, Stored, Checks, Offers, Left, BaseExps}
+use Rattle.registry.specs.Held.{plain_view, Table, rules_of, Stored, Checks, Offers, Left, BaseExps}
 use Rattle.registry.proofs.GivenLists.{listed}
-use Rattle.registry.proofs.Looking.{plain_resolved, by_view, keyed, slots-are, stored, lends_rows, lends_plain, plain-bases, base_sized}
+use Rattle.registry.proofs.Looking.{plain_resolved, keyed, slots-are, stored, lends_rows, lends_plain, plain-bases, base_sized}
 use Rattle.registry.proofs.Choosing.{amount_long}
 use Rattle.registry.proofs.BaseList.{base_list_few, base_list_checked}
 use Rattle.registry.proofs.Settling.{few_left, range_stops, fraction_stops, unit_stops, unit-taken, to_candidates}
@@ -46,16 +46,15 @@ abbrev measured : tie.After-near-one → tie.After-scale-from
 measured n = n.before.before.before.before.before.before
 
 -- ---- what is known at each
-module _ (tb : Tabled) where
+module _ (tb : Table) where
   -- what is asked of the arguments
   record Asked (s : tie.Start) : Type 0 where
     pub left : Left tb s.args.rest
     pub offers : Offers tb s.args.c
-    pub by : s.args.mode ≡ tb.rows.mode
     pub table : Admits tb.rows s.args.t s.args.nums.now s.args.dens.now s.args.scales.now s.args.ranks.now s.args.based.now
 
-  held : (s : tie.Start) → Asked s → Stored tb s.args.mode s.args.t.len s.args.t.slots.len s.args.nums.now s.args.dens.now s.args.scales.now s.args.ranks.now s.args.based.now
-  held s h = stored tb h.table s.args.mode h.by
+  held : (s : tie.Start) → Asked s → Stored tb s.args.t.len s.args.t.slots.len s.args.nums.now s.args.dens.now s.args.scales.now s.args.ranks.now s.args.based.now
+  held s h = stored tb h.table
 
   -- the list of what is left
   abbrev ls : (s : tie.Start) → Asked s → List Factor
@@ -67,12 +66,12 @@ module _ (tb : Tabled) where
   -- the base exponents of what is left
   module _ (b : tie.After-base-of) (h : Asked (begin b)) where
     abbrev view : View
-    view = plain_view tb.rows.mode tb.known (ls (begin b) h)
+    view = plain_view tb.known (ls (begin b) h)
 
     seen : Resolved view b.before.before.plain.result (ls (begin b) h)
     seen =
         let g = held (begin b) h in
-        plain_resolved (listed h.left.passes) tb.rows.mode tb.known (by_view g (ls (begin b) h) _ (b.before.before.plain.ensures tb.known (ls (begin b) h) (keyed tb).few g.paged.sized g.paged.basic h.left.passes))
+        plain_resolved (listed h.left.passes) tb.known (b.before.before.plain.ensures tb.known (ls (begin b) h) (keyed tb).few g.paged.sized g.paged.basic h.left.passes)
 
     exps : b.base-of.result ≡ exps_of (base (rules_of tb).bases (ls (begin b) h))
     exps =
@@ -135,9 +134,9 @@ module _ (tb : Tabled) where
         ∙ ap (λ (q : Quantity). converted_of (convert (rules_of tb) (ls (start n h) h) (fs n h) q.value)) h.left.is
 
 returns : tie.Need-returns
-returns c tb l k by a =
+returns c tb l k a =
     let s : tie.Start = c.before.before.before.before.before.before.before in
-    let n = rest-long tb s (record { left = l; offers = k; by = by; table = a }) in
+    let n = rest-long tb s (record { left = l; offers = k; table = a }) in
     (λ i. record { quantity = l.is i; refusal = 0 })
     ∙ ap answered_of (sym (few_left (rules_of tb) (base_rows tb.rows) k.lists l.amount (omega (arith, n, c.if1.true))))
 
@@ -151,9 +150,9 @@ refused-requires : tie.Need-refused-requires
 refused-requires c κs = search rules
 
 returns-2 : tie.Need-returns-2
-returns-2 c tb l k by a =
+returns-2 c tb l k a =
     let b : tie.After-base-of = c.before.before.before in
-    let h : Asked tb (begin b) = record { left = l; offers = k; by = by; table = a } in
+    let h : Asked tb (begin b) = record { left = l; offers = k; table = a } in
     c.refused.ensures
     ∙ unanswered _ _ (range_stops (rules_of tb) (base_rows tb.rows) k.lists l.amount (two tb b h) _ (exps_refused (base (rules_of tb).bases l.amount.1) b.base-of.result (exps tb b h) c.before.if2.true))
 
@@ -188,10 +187,10 @@ refused-requires-2 : tie.Need-refused-requires-2
 refused-requires-2 c κs = search rules
 
 returns-3 : tie.Need-returns-3
-returns-3 c tb l k by a =
+returns-3 c tb l k a =
     let v : tie.After-converted = c.before.before.before.before in
     let n : tie.After-near-one = v.before.before in
-    let h : Asked tb (begin (based (measured n))) = record { left = l; offers = k; by = by; table = a } in
+    let h : Asked tb (begin (based (measured n))) = record { left = l; offers = k; table = a } in
     let r = value_refused (into tb v h) v.converted.result (unit-value tb v h) _ _ c.before.before.enum_told.given.1 c.before.refusal_of_lem.ensures in
     c.refused2.ensures
     ∙ unanswered _ _ (unit_stops (rules_of tb) (base_rows tb.rows) k.lists l.amount (two tb (based (measured n)) h) (xs tb n h) (known_exps tb (measured n) h).is (size tb n h) (size_is tb n h) (sym (test-is tb n h) ∙ v.before.if3.true) _ r)
@@ -200,10 +199,10 @@ with-mark-requires : tie.Need-with-mark-requires
 with-mark-requires c κs = search rules
 
 returns-4 : tie.Need-returns-4
-returns-4 c tb l k by a =
+returns-4 c tb l k a =
     let v : tie.After-converted = c.before.before.before.before in
     let n : tie.After-near-one = v.before.before in
-    let h : Asked tb (begin (based (measured n))) = record { left = l; offers = k; by = by; table = a } in
+    let h : Asked tb (begin (based (measured n))) = record { left = l; offers = k; table = a } in
     let z = c.before.before.z.given in
     let g = value_given (into tb v h) v.converted.result (unit-value tb v h) z.0.0 z.1 in
     c.with-mark.ensures (fs tb n h) (unit_is tb n h)
@@ -219,16 +218,16 @@ refused-requires-3 : tie.Need-refused-requires-3
 refused-requires-3 c κs = search rules
 
 returns-5 : tie.Need-returns-5
-returns-5 c tb l k by a =
+returns-5 c tb l k a =
     let n : tie.After-near-one = c.before.before in
-    let h : Asked tb (begin (based (measured n))) = record { left = l; offers = k; by = by; table = a } in
+    let h : Asked tb (begin (based (measured n))) = record { left = l; offers = k; table = a } in
     c.chosen.ensures tb l k (base_exps tb n h) (held tb (begin (based (measured n))) h)
     ∙ ap answered_of (sym (to_candidates (rules_of tb) (base_rows tb.rows) k.lists l.amount (two tb (based (measured n)) h) (xs tb n h) (known_exps tb (measured n) h).is (size tb n h) (size_is tb n h) (sym (test-is tb n h) ∙ c.before.if3.false)))
 
 returns-6 : tie.Need-returns-6
-returns-6 c tb l k by a =
+returns-6 c tb l k a =
     let y : tie.After-scale-from = c.before.before.before.before in
-    let h : Asked tb (begin (based y)) = record { left = l; offers = k; by = by; table = a } in
+    let h : Asked tb (begin (based y)) = record { left = l; offers = k; table = a } in
     let e = known_exps tb y h in
     c.refused3.ensures
     ∙ unanswered _ _ (fraction_stops (rules_of tb) (base_rows tb.rows) k.lists l.amount (two tb (based y) h) e.exps e.is _ (sym (scale_is tb y h) ∙ c.before.before.y2.given.1))

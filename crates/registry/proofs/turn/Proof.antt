@@ -12,7 +12,7 @@ use Rattle.conversion.specs.Conversion.{convert}
 use Rattle.conversion.specs.Held.{converted_of}
 use Rattle.quantities.proofs.Converting.{value_given, value_refused, Judges, judged_so}
 use Rattle.registry.specs.Registry.{fitting}
-use Rattle.registry.specs.Held.{Tabled, rules_of, Stored, Checks, Left, BaseExps, choice_of}
+use Rattle.registry.specs.Held.{Table, rules_of, Stored, Checks, Left, BaseExps, choice_of}
 use Rattle.registry.proofs.GivenLists.{listed, list_long}
 use Rattle.registry.proofs.Choosing.{amount_long, tested, reached, test_refused, no_fit, not_reached, one_wins, fewer, no_fewer, unchosen}
 use Rattle.registry.proofs.turn.Statement.{statement}
@@ -27,9 +27,9 @@ m-full : (c : tie.Start) → length c.args.m.at ≡ 16
 m-full c = search (rules, full)
 
 -- what is known of the arguments
-module _ (tb : Tabled) where
+module _ (tb : Table) where
   abbrev Has : tie.Start → Type 0
-  Has s = Stored tb s.args.mode s.args.len s.args.n s.args.nums.now s.args.dens.now s.args.scales.now s.args.ranks.now s.args.based.now
+  Has s = Stored tb s.args.len s.args.n s.args.nums.now s.args.dens.now s.args.scales.now s.args.ranks.now s.args.based.now
 
   -- the candidate, tested
   test_of : (c : tie.After-fits2) → let s = begin c.before.before in (l : Left tb s.args.rest) (k : Checks tb s.args.m) (x : BaseExps tb s.args.xs) → Has s → (w : Verdict) → c.fits2.result ≡ w → Judges (tested (rules_of tb) x.exps s.args.s l.amount k.factors) w

@@ -20,22 +20,22 @@ use Rattle.resolution.proofs.items.Statement.{statement}
 use Rattle.resolution.proofs.items.Tie as tie
 
 abbrev invariant-loop : tie.invariant-loop
-invariant-loop mode from n keys named scales ranks based l o₀ m i₀ o i =
+invariant-loop from n keys named scales ranks based l o₀ m i₀ o i =
     (i ≤ m)
-    × ((ks : List Facts) (fs : List Factor) → Fills ks fs n l from o₀ named keys scales ranks based → o ≡ pack_items (view_of mode ks fs) (take i (list_of l)))
+    × ((ks : List Facts) (fs : List Factor) → Fills ks fs n l from o₀ named keys scales ranks based → o ≡ pack_items (view_of ks fs) (take i (list_of l)))
 
 abbrev decreases-loop : tie.decreases-loop
-decreases-loop mode from n keys named scales ranks based l o₀ m i₀ o i = m - i
+decreases-loop from n keys named scales ranks based l o₀ m i₀ o i = m - i
 
 -- the list is full, and each row that is named is a row of the arrays
-full : (c : tie.Start invariant-loop decreases-loop) → length c.args.t2.at ≡ 16
+full : (c : tie.Start invariant-loop decreases-loop) → length c.args.t1.at ≡ 16
 full c = search (rules, unmapped)
 
-low : (c : tie.Start invariant-loop decreases-loop) (i : ℕ) → i < c.args.t2.len → get_or c.args.named.now (c.args.from + i) 0 < 128
+low : (c : tie.Start invariant-loop decreases-loop) (i : ℕ) → i < c.args.t1.len → get_or c.args.named.now (c.args.from + i) 0 < 128
 low c i h = c.requires.5.3 (c.args.from + i) (omega arith)
 
 loop-holds : tie.Need-loop-init invariant-loop decreases-loop
-loop-holds c = (omega arith, λ ks fs h. h.empty ∙ no_items (view_of _ ks fs))
+loop-holds c = (omega arith, λ ks fs h. h.empty ∙ no_items (view_of ks fs))
 
 mul-f : tie.Need-overflow-mul-f invariant-loop decreases-loop
 mul-f c = search rules
@@ -67,8 +67,8 @@ item-requires c κs =
     let h = low s c.before.before.before.before.loop.i (omega arith) in
     (omega (arith, s.requires.2), omega (arith, s.requires.4))
 
-mul-t23 : tie.Need-overflow-mul-t23 invariant-loop decreases-loop
-mul-t23 c = search rules
+mul-t22 : tie.Need-overflow-mul-t22 invariant-loop decreases-loop
+mul-t22 c = search rules
 
 element-set-from-o : tie.Need-element-set-from-o invariant-loop decreases-loop
 element-set-from-o c = search rules
@@ -86,20 +86,20 @@ loop-again : tie.Need-loop-preserved invariant-loop decreases-loop
 loop-again c =
     let o = c.before.before.before.before.before.loop in
     let s : tie.Start invariant-loop decreases-loop = c.before.before.before.before.before.before.before.before.before.before in
-    let l = s.args.t2 in
+    let l = s.args.t1 in
     let d = c.before.before.count_of in (
       omega arith,
       λ ks fs h.
-          items_more (view_of _ ks fs) (list_of l) o.i nil_factor o.o c.item.result (omega (arith, listed l (full s) s.requires.0)) (omega arith) (o.invariant.1 ks fs h)
-          (item_of_lem h o.i (omega arith) (omega arith) _ nil_factor d.result c.item.result (d.ensures ks fs h.counts) c.item.ensures),
+          items_more (view_of ks fs) (list_of l) o.i nil_factor o.o c.item.result (omega (arith, listed l (full s) s.requires.0)) (omega arith) (o.invariant.1 ks fs h)
+          (item_of_lem h o.i (omega arith) (omega arith) nil_factor d.result c.item.result (d.ensures ks fs h.counts) c.item.ensures),
     )
 
 returns : tie.Need-returns invariant-loop decreases-loop
 returns c ks fs h =
     let o = c.before.loop in
     let s : tie.Start invariant-loop decreases-loop = c.before.before.before.before.before.before in
-    let l = s.args.t2 in
-    o.invariant.1 ks fs h ∙ ap (pack_items (view_of _ ks fs)) (take_all o.i (list_of l) (omega (arith, listed l (full s) s.requires.0)))
+    let l = s.args.t1 in
+    o.invariant.1 ks fs h ∙ ap (pack_items (view_of ks fs)) (take_all o.i (list_of l) (omega (arith, listed l (full s) s.requires.0)))
 
 pub items-spec : {M : Type 1} → statement M
 items-spec =
@@ -117,7 +117,7 @@ items-spec =
     shared-slice-read-r
     cast-item
     item-requires
-    mul-t23
+    mul-t22
     element-set-from-o
     add-o
     add-i

@@ -21,7 +21,7 @@ use Rattle.resolution.proofs.resolve.Statement.{statement}
 use Rattle.resolution.proofs.resolve.Tie as tie
 
 abbrev invariant-loop : tie.invariant-loop
-invariant-loop mode len nums dens scales ranks based none a b p n m keys₀ named₀ i₀ keys named i =
+invariant-loop len nums dens scales ranks based none a b p n m keys₀ named₀ i₀ keys named i =
     (i ≤ m)
     × (n ≤ 16)
     × (m ≤ n + 16)
@@ -31,24 +31,24 @@ invariant-loop mode len nums dens scales ranks based none a b p n m keys₀ name
     × ((ks : List Facts) → Reads ks len none nums dens scales ranks based → Named ks (join a b) i named keys)
 
 abbrev decreases-loop : tie.decreases-loop
-decreases-loop mode len nums dens scales ranks based none a b p n m keys₀ named₀ i₀ keys named i = m - i
+decreases-loop len nums dens scales ranks based none a b p n m keys₀ named₀ i₀ keys named i = m - i
 
-first_full : (c : tie.Start invariant-loop decreases-loop) → length c.args.t8.at ≡ 16
+first_full : (c : tie.Start invariant-loop decreases-loop) → length c.args.t7.at ≡ 16
 first_full c = search (rules, unmapped)
 
-second_full : (c : tie.Start invariant-loop decreases-loop) → length c.args.t9.at ≡ 16
+second_full : (c : tie.Start invariant-loop decreases-loop) → length c.args.t8.at ≡ 16
 second_full c = search (rules, unmapped)
 
 abbrev start : tie.Else2 invariant-loop decreases-loop → tie.Start invariant-loop decreases-loop
 start c = c.before.before.before.before.before.before.before
 
-passed : (c : tie.Else2 invariant-loop decreases-loop) → Lists (start c).args.len (start c).args.t8 (start c).args.t9
+passed : (c : tie.Else2 invariant-loop decreases-loop) → Lists (start c).args.len (start c).args.t7 (start c).args.t8
 passed c = record { passed = sym c.before.pair-fault.ensures ∙ c.if2.false; first_full = first_full (start c); second_full = second_full (start c) }
 
 -- the factor that is read is the one at place i of both, and names a row of the table
 here : (c : tie.Joined3 invariant-loop decreases-loop) →
     let a = (start c.before.before.before).args in
-    c.if3.f ≡ get_or (join a.t8 a.t9) c.before.before.loop.i nil_factor
+    c.if3.f ≡ get_or (join a.t7 a.t8) c.before.before.loop.i nil_factor
 here c =
     let i = c.before.before.loop.i in
     let g = passed c.before.before.before in
@@ -89,8 +89,8 @@ returns-2 : tie.Need-returns-2 invariant-loop decreases-loop
 returns-2 c ks h =
     let a = c.before.before.before.before.before.before.before.before.args in
     c.refused2.ensures h.empty
-    ∙ not_resolved _ ks (both a.len a.t8 a.t9) _ c.before.before.pair-fault.ensures c.before.if2.true
-    ∙ ap (λ n. resolved_of a.mode ks (both n a.t8 a.t9)) h.all
+    ∙ not_resolved ks (both a.len a.t7 a.t8) _ c.before.before.pair-fault.ensures c.before.if2.true
+    ∙ ap (λ n. resolved_of ks (both n a.t7 a.t8)) h.all
 
 add-m : tie.Need-overflow-add-m invariant-loop decreases-loop
 add-m c = omega (arith, first_short (passed c), second_short (passed c))
@@ -104,7 +104,7 @@ loop-holds c =
       refl,
       refl,
       λ j h. absurd (omega arith),
-      λ ks h. named_none ks (join a.t8 a.t9) _ _,
+      λ ks h. named_none ks (join a.t7 a.t8) _ _,
     )
 
 mul-f : tie.Need-overflow-mul-f invariant-loop decreases-loop
@@ -182,9 +182,9 @@ loop-again c =
       within_on o.named o.i f.row room (low j) o.invariant.5,
       λ ks h.
           let w = known x ks h.all h.paged in
-          subst (Named ks (join a.t8 a.t9) (o.i + 1) (set o.named o.i f.row)) (sym put)
+          subst (Named ks (join a.t7 a.t8) (o.i + 1) (set o.named o.i f.row)) (sym put)
           (named_on o.named o.i f.row room (o.invariant.6 ks h) nums (omega (arith, long_join l)) (omega arith)
-          (ap (λ (f : Factor). f.row) (here j) ∙ row_any (join a.t8 a.t9) o.i nil_factor no_factor (omega (arith, long_join l)))
+          (ap (λ (f : Factor). f.row) (here j) ∙ row_any (join a.t7 a.t8) o.i nil_factor no_factor (omega (arith, long_join l)))
           w.0
           (long-nums c.before.before.before.before.before)
           (key_is h.keyed f.row w.0 x.exps_at.result w.1 k.key_of.result k.key_of.ensures)),
@@ -221,15 +221,15 @@ returns-4 c ks h =
     let p : tie.Else2 invariant-loop decreases-loop = c.before.before.before.before.before.before.before.before in
     let l = passed p in
     let a = (start p).args in
-    let m : o.i ≡ a.t8.len + a.t9.len = omega arith in
-    let fs = join a.t8 a.t9 in
-    let all : Counts ks fs (a.t8.len + a.t9.len) o.named o.keys a.ranks.now = record { all = sym (long_join l); named = subst (λ i. Named ks fs i o.named o.keys) m (o.invariant.6 ks h); ranked = h.paged.ranked } in
+    let m : o.i ≡ a.t7.len + a.t8.len = omega arith in
+    let fs = join a.t7 a.t8 in
+    let all : Counts ks fs (a.t7.len + a.t8.len) o.named o.keys a.ranks.now = record { all = sym (long_join l); named = subst (λ i. Named ks fs i o.named o.keys) m (o.invariant.6 ks h); ranked = h.paged.ranked } in
     let sized = h.paged.sized in
     let basic = h.paged.basic in
-    resolved_by l _ ks x.items.result c.items2.result
+    resolved_by l ks x.items.result c.items2.result
     (x.items.ensures ks fs (record { counts = all; empty = h.empty; part = first_part l; sized = sized; basic = basic }))
     (c.items2.ensures ks fs (record { counts = all; empty = h.empty; part = second-part l; sized = sized; basic = basic }))
-    ∙ ap (λ n. resolved_of a.mode ks (both n a.t8 a.t9)) h.all
+    ∙ ap (λ n. resolved_of ks (both n a.t7 a.t8)) h.all
 
 pub resolve-spec : {M : Type 1} → statement M
 resolve-spec =

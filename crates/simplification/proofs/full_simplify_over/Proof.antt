@@ -5,7 +5,7 @@ use mathlib.Core.Bool.{Bool, true, false}
 use mathlib.Core.List.{[]}
 use Rattle.exponents.specs.Outcome.{apply}
 use Rattle.units.specs.declared.Quantity.{Quantity}
-use Rattle.units.specs.Modes.{Table}
+use Rattle.units.specs.declared.Rows.{Rows}
 use Rattle.units.specs.Lists.{pack}
 use Rattle.lists.proofs.Checks.{Call, with_none}
 use Rattle.values.specs.Quantities.{answered_of}
@@ -19,7 +19,7 @@ use Rattle.simplification.proofs.full_simplify_over.Statement.{statement}
 use Rattle.simplification.proofs.full_simplify_over.Tie as tie
 
 -- the call, beside the empty list
-beside_none : (t : Table) (q : Quantity) (m : Bool) → q.mark ≡ m → full_simplify t q ≡ Call t q.unit (pack []) (λ ks fs gs. work t q m ks fs)
+beside_none : (t : Rows) (q : Quantity) (m : Bool) → q.mark ≡ m → full_simplify t q ≡ Call t q.unit (pack []) (λ ks fs gs. work t q m ks fs)
 beside_none t q m e = by_mark t q m e ∙ with_none t q.unit (work t q m)
 
 refused-requires : tie.Need-refused-requires

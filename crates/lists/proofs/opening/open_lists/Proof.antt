@@ -1,6 +1,5 @@
 -- `open_lists` meets its contract.
 use borrow.Author.Rules.{rules}
-use Rattle.units.specs.Modes.{in_mode}
 use Rattle.lists.proofs.Ends.{tells_of}
 use Rattle.lists.proofs.opening.open_lists.Statement.{statement}
 use Rattle.lists.proofs.opening.open_lists.Tie as tie
@@ -38,8 +37,8 @@ same-length-2 c = search rules
 returns : tie.Need-returns
 returns c =
     let t = c.before.before.before.before.before.before.before.before.before.before.before.before in
-    let a = t.before.before.before.before.before.before.before.args in
-    record { is = c.open-over.ensures a.rows t.admit.ensures; tells = tells_of (in_mode a.mode a.rows) _ _ _ _ _ t.admit.ensures.pages }
+    let rows = t.before.before.before.before.before.before.before.args.rows in
+    record { is = c.open-over.ensures rows t.admit.ensures; tells = tells_of rows _ _ _ _ _ t.admit.ensures.pages }
 
 pub open-lists-spec : {M : Type 1} → statement M
 open-lists-spec = tie.close (tie.spec slice-aggregate-admit slice-aggregate-admit-2 slice-aggregate-admit-3 admit-requires slice-aggregate-open-over slice-aggregate-open-over-2 slice-aggregate-open-over-3 open-over-requires same_length same-length-2 returns)

@@ -3,7 +3,6 @@ use borrow.Author.Rules.{rules}
 use mathlib.Core.Path.{◌≡◌, ap, ◌∙◌, subst}
 use lib.ListN.{length}
 use Rattle.units.specs.declared.Rows.{Rows}
-use Rattle.units.specs.Modes.{Table, in_mode}
 use Rattle.units.specs.Lists.{both}
 use Rattle.tables.specs.declared.Admitted.{Admitted}
 use Rattle.tables.specs.Rows.{admit, Admission, known, base_rows}
@@ -31,31 +30,27 @@ unopened-requires c κs = search rules
 returns : tie.Need-returns
 returns c rows k =
     let s = (begin c.before.before).args in
-    let t = in_mode s.mode rows in
-    c.unopened.ensures (blank c.before.before) ∙ table_stops t s.a s.b (base_rows t) _ (table_refuses (base_rows t) (admit t) s.t k.is c.before.if1.true)
+    c.unopened.ensures (blank c.before.before) ∙ table_stops rows s.a s.b (base_rows rows) _ (table_refuses (base_rows rows) (admit rows) s.t k.is c.before.if1.true)
 
 resolve-requires : tie.Need-resolve-requires
 resolve-requires c κs = search rules
 
 -- a table that was admitted: its rows, and what is resolved over them
-abbrev read : tie.After-resolve → Rows → Table
-read c rows = in_mode (begin c.before.before).args.mode rows
-
 abbrev Admission-of : tie.After-resolve → Rows → Type 0
-Admission-of c rows = let s = (begin c.before.before).args in Admits (read c rows) s.t s.nums.now s.dens.now s.scales.now s.ranks.now s.based.now
+Admission-of c rows = let s = (begin c.before.before).args in Admits rows s.t s.nums.now s.dens.now s.scales.now s.ranks.now s.based.now
 
 module _ (c : tie.After-resolve) (rows : Rows) (k : Admission-of c rows) where
-  accepted : Accepted (base_rows (read c rows)) (admit (read c rows)) (begin c.before.before).args.t
-  accepted = admitted_by (base_rows (read c rows)) (admit (read c rows)) (begin c.before.before).args.t k.is c.before.if1.false
+  accepted : Accepted (base_rows rows) (admit rows) (begin c.before.before).args.t
+  accepted = admitted_by (base_rows rows) (admit rows) (begin c.before.before).args.t k.is c.before.if1.false
 
-  resolved : let s = (begin c.before.before).args in c.resolve.result ≡ resolved_of s.mode accepted.rows (both (length accepted.rows) s.a s.b)
+  resolved : let s = (begin c.before.before).args in c.resolve.result ≡ resolved_of accepted.rows (both (length accepted.rows) s.a s.b)
   resolved =
       let s = (begin c.before.before).args in
       c.resolve.ensures accepted.rows (record {
         all = ap (λ (y : Admitted). y.len) accepted.table;
         empty = blank c.before.before;
         paged = subst (λ (a : Admission). Pages a s.nums.now s.dens.now s.scales.now s.ranks.now s.based.now) accepted.is k.pages;
-        keyed = admit_keyed (read c rows) accepted.rows accepted.is;
+        keyed = admit_keyed rows accepted.rows accepted.is;
       })
 
 unopened-requires-2 : tie.Need-unopened-requires-2
@@ -66,7 +61,7 @@ returns-2 c rows k =
     let r = c.before.before.before in
     let s = (begin r.before.before).args in
     let h = accepted r rows k in
-    c.unopened2.ensures (blank r.before.before) ∙ lists_stop (read r rows) s.a s.b h.rows (ap known h.is) (base_rows (read r rows)) _ (lists_refuse s.mode h.rows _ r.resolve.result (resolved r rows k) c.before.if2.true)
+    c.unopened2.ensures (blank r.before.before) ∙ lists_stop rows s.a s.b h.rows (ap known h.is) (base_rows rows) _ (lists_refuse h.rows _ r.resolve.result (resolved r rows k) c.before.if2.true)
 
 returns-3 : tie.Need-returns-3
 returns-3 c rows k =
@@ -74,7 +69,7 @@ returns-3 c rows k =
     let r = d.before.before in
     let s = (begin r.before.before).args in
     let h = accepted r rows k in
-    opens (read r rows) s.a s.b h.rows (ap known h.is) (base_rows (read r rows)) r.resolve.result _ (resolved r rows k) d.if2.false (ap (λ (y : Admitted). y.slots) h.table)
+    opens rows s.a s.b h.rows (ap known h.is) (base_rows rows) r.resolve.result _ (resolved r rows k) d.if2.false (ap (λ (y : Admitted). y.slots) h.table)
 
 pub open-over-spec : {M : Type 1} → statement M
 open-over-spec = tie.close (tie.spec no-items-requires unopened-requires returns resolve-requires unopened-requires-2 returns-2 returns-3)

@@ -5,7 +5,7 @@ use mathlib.Core.List.{List}
 use lib.Ieee.{Float}
 use Rattle.exponents.specs.Outcome.{Outcome}
 use Rattle.units.specs.declared.Factor.{Factor}
-use Rattle.units.specs.Modes.{Table}
+use Rattle.units.specs.declared.Rows.{Rows}
 use Rattle.tables.specs.Rows.{Facts}
 use Rattle.tables.specs.Rules.{Rules, rules_in}
 use Rattle.reduction.specs.Multiple.{Maybe, is_multiple, multiple_is}
@@ -16,7 +16,7 @@ use Rattle.lists.proofs.Ready.{ready, stopped, seen, goes, lends}
 use Rattle.lists.proofs.reductions.is_multiple_of_over.Statement.{statement}
 use Rattle.lists.proofs.reductions.is_multiple_of_over.Tie as tie
 
-abbrev work : Table → List Facts → List Factor → List Factor → Outcome Maybe
+abbrev work : Rows → List Facts → List Factor → List Factor → Outcome Maybe
 work t ks fs gs = is_multiple (rules_in t ks).bases fs gs
 
 returns : tie.Need-returns

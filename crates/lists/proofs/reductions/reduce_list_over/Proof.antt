@@ -5,7 +5,7 @@ use mathlib.Core.List.{List, [], ◌++◌}
 use lib.Ieee.{Float}
 use Rattle.exponents.specs.Outcome.{Outcome}
 use Rattle.units.specs.declared.Factor.{Factor}
-use Rattle.units.specs.Modes.{Table}
+use Rattle.units.specs.declared.Rows.{Rows}
 use Rattle.units.specs.Lists.{pack}
 use Rattle.tables.specs.Rows.{Facts, base_rows}
 use Rattle.tables.specs.Rules.{rules_in}
@@ -18,7 +18,7 @@ use Rattle.lists.proofs.Ready.{ready, stopped, seen, goes}
 use Rattle.lists.proofs.reductions.reduce_list_over.Statement.{statement}
 use Rattle.lists.proofs.reductions.reduce_list_over.Tie as tie
 
-abbrev work : Table → List Facts → List Factor → Outcome (List Factor × Float)
+abbrev work : Rows → List Facts → List Factor → Outcome (List Factor × Float)
 work t ks fs = reduction (rules_in t ks) (base_rows t) fs
 
 not-reduced-requires : tie.Need-not-reduced-requires

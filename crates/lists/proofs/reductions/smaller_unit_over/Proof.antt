@@ -7,7 +7,7 @@ use Rattle.exponents.specs.Words.{pick}
 use Rattle.exponents.specs.Outcome.{Outcome, apply}
 use Rattle.units.specs.declared.Factor.{Factor}
 use Rattle.units.specs.declared.Factors.{Factors}
-use Rattle.units.specs.Modes.{Table}
+use Rattle.units.specs.declared.Rows.{Rows}
 use Rattle.units.specs.Lists.{refused_by, made_of}
 use Rattle.tables.specs.Rows.{Facts}
 use Rattle.tables.specs.Rules.{rules_in}
@@ -20,7 +20,7 @@ use Rattle.lists.proofs.Ready.{Ready, ready, stopped, seen, goes, lends}
 use Rattle.lists.proofs.reductions.smaller_unit_over.Statement.{statement}
 use Rattle.lists.proofs.reductions.smaller_unit_over.Tie as tie
 
-abbrev work : Table → List Facts → List Factor → List Factor → Outcome (List Factor)
+abbrev work : Rows → List Facts → List Factor → List Factor → Outcome (List Factor)
 work t ks fs gs = apply (λ first. pick first fs gs) (smaller_unit (rules_in t ks) fs gs)
 
 refused-requires : tie.Need-refused-requires
@@ -33,7 +33,7 @@ returns c rows a b o =
     c.refused.ensures ∙ handed refused_by made_of (λ r. refl) _ _ (stopped rows a b s.o o.is (work rows) c.before.if1.true)
 
 -- which one is the smaller by the table's rules
-module _ (c : tie.After-smaller-unit) (rows : Table) (a b : Factors) (o : let s = c.before.before.before.before.before.before.before.args in Opens rows a b s.o s.nums.now s.dens.now) where
+module _ (c : tie.After-smaller-unit) (rows : Rows) (a b : Factors) (o : let s = c.before.before.before.before.before.before.before.args in Opens rows a b s.o s.nums.now s.dens.now) where
   abbrev lists : Ready rows a b c.before.before.before.before.before.before.before.args.o
   lists = ready rows a b c.before.before.before.before.before.before.before.args.o o.is c.before.before.before.before.if1.false
 

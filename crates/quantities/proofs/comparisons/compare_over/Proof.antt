@@ -9,7 +9,7 @@ use Rattle.exponents.specs.Outcome.{Outcome, NAN, unless, bind}
 use Rattle.exponents.proofs.Holds.{bind_given}
 use Rattle.units.specs.declared.Factor.{Factor}
 use Rattle.units.specs.declared.Quantity.{Quantity}
-use Rattle.units.specs.Modes.{Table}
+use Rattle.units.specs.declared.Rows.{Rows}
 use Rattle.tables.specs.Rows.{Facts}
 use Rattle.tables.specs.Rules.{rules_in}
 use Rattle.lists.proofs.Ready.{ready, stopped, goes}
@@ -22,13 +22,13 @@ use Rattle.quantities.proofs.Converting.{value_given, value_refused, refuses_as,
 use Rattle.quantities.proofs.comparisons.compare_over.Statement.{statement}
 use Rattle.quantities.proofs.comparisons.compare_over.Tie as tie
 
-abbrev compared : Table → Quantity → Quantity → List Facts → List Factor → List Factor → Outcome Ordering
+abbrev compared : Rows → Quantity → Quantity → List Facts → List Factor → List Factor → Outcome Ordering
 compared t q p ks fs gs = bind (convert (rules_in t ks) gs fs p.value) (λ y. ordered q.value y)
 
 abbrev unordered : Quantity → Quantity → Bool
 unordered q p = isNan q.value || isNan p.value
 
-abbrev work : Table → Quantity → Quantity → List Facts → List Factor → List Factor → Outcome Ordering
+abbrev work : Rows → Quantity → Quantity → List Facts → List Factor → List Factor → Outcome Ordering
 work t q p ks fs gs = unless (unordered q p) NAN (compared t q p ks fs gs)
 
 returns : tie.Need-returns

@@ -6,7 +6,7 @@ use mathlib.Core.List.{List}
 use Rattle.exponents.specs.Outcome.{Outcome}
 use Rattle.units.specs.declared.Factor.{Factor}
 use Rattle.units.specs.declared.Quantity.{Quantity}
-use Rattle.units.specs.Modes.{Table}
+use Rattle.units.specs.declared.Rows.{Rows}
 use Rattle.tables.specs.Rows.{Facts}
 use Rattle.tables.specs.Rules.{rules_in}
 use Rattle.lists.proofs.Ready.{ready, stopped, goes}
@@ -20,7 +20,7 @@ use Rattle.quantities.proofs.Converting.{undecided, judged}
 use Rattle.quantities.proofs.comparisons.equal_over.Statement.{statement}
 use Rattle.quantities.proofs.comparisons.equal_over.Tie as tie
 
-abbrev work : Table → Quantity → Quantity → List Facts → List Factor → List Factor → Outcome Bool
+abbrev work : Rows → Quantity → Quantity → List Facts → List Factor → List Factor → Outcome Bool
 work t q p ks fs gs = equal_to q.value (convert (rules_in t ks) gs fs p.value)
 
 returns : tie.Need-returns

@@ -6,7 +6,7 @@ use lib.Ieee.{Float}
 use Rattle.exponents.specs.Outcome.{Outcome, apply}
 use Rattle.units.specs.declared.Factor.{Factor}
 use Rattle.units.specs.declared.Quantity.{Quantity}
-use Rattle.units.specs.Modes.{Table}
+use Rattle.units.specs.declared.Rows.{Rows}
 use Rattle.tables.specs.Rows.{Facts}
 use Rattle.tables.specs.Rules.{rules_in}
 use Rattle.lists.proofs.Ready.{ready, stopped, goes, seen}
@@ -18,7 +18,7 @@ use Rattle.values.proofs.Answered.{unanswered}
 use Rattle.quantities.proofs.conversions.convert_merged_over.Statement.{statement}
 use Rattle.quantities.proofs.conversions.convert_merged_over.Tie as tie
 
-abbrev work : Table → Float → List Facts → List Factor → List Factor → Outcome Quantity
+abbrev work : Rows → Float → List Facts → List Factor → List Factor → Outcome Quantity
 work t y ks fs gs = apply (λ v. fresh v gs) (cancelling (rules_in t ks) fs gs y)
 
 refused-requires : tie.Need-refused-requires

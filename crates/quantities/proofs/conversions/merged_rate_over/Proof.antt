@@ -7,7 +7,7 @@ use Rattle.exponents.specs.Outcome.{Outcome, apply}
 use Rattle.exponents.proofs.Following.{apply_same, apply_apply}
 use Rattle.units.specs.declared.Factor.{Factor}
 use Rattle.units.specs.declared.Quantity.{Quantity}
-use Rattle.units.specs.Modes.{Table}
+use Rattle.units.specs.declared.Rows.{Rows}
 use Rattle.tables.specs.Rows.{Facts}
 use Rattle.tables.specs.Rules.{rules_in}
 use Rattle.lists.proofs.Ends.{handed}
@@ -23,7 +23,7 @@ use Rattle.quantities.proofs.Converting.{map_refuses}
 use Rattle.quantities.proofs.conversions.merged_rate_over.Statement.{statement}
 use Rattle.quantities.proofs.conversions.merged_rate_over.Tie as tie
 
-abbrev work : Table → Float → List Facts → List Factor → List Factor → Outcome Quantity
+abbrev work : Rows → Float → List Facts → List Factor → List Factor → Outcome Quantity
 work t y ks fs gs = apply (λ v. fresh v gs) (cancelling (rules_in t ks) fs gs y)
 
 no-rate-requires : tie.Need-no-rate-requires

@@ -8,7 +8,7 @@ use lib.ListN.{drop}
 use Rattle.units.specs.declared.Factor.{Factor}
 use Rattle.units.specs.Lists.{no_factor}
 use Rattle.floats.specs.Power.{tally}
-use Rattle.tables.specs.Scale.{numbers_in, counting, scale_from_lem}
+use Rattle.tables.specs.Scale.{doubles, counting, scale_from_lem}
 use Rattle.tables.specs.Held.{View, Resolved}
 use Rattle.reduction.proofs.Resolved.{sizes, nil_item, items_len, item_at, item_on, item_off, items_end, within_value}
 use Rattle.reduction.proofs.bases.counted_scale.Statement.{statement}
@@ -18,7 +18,7 @@ abbrev invariant-loop : tie.invariant-loop
 invariant-loop start l m acc₀ count₀ i₀ acc count i =
     (i ≤ m)
     × (count ≤ i * 122)
-    × ((v : View) (fs : List Factor) → Resolved v l fs → scale_from_lem (counting (numbers_in v.mode)) (sizes v) (tally acc count) (drop i fs) ≡ scale_from_lem (counting (numbers_in v.mode)) (sizes v) (tally start 0) fs)
+    × ((v : View) (fs : List Factor) → Resolved v l fs → scale_from_lem (counting doubles) (sizes v) (tally acc count) (drop i fs) ≡ scale_from_lem (counting doubles) (sizes v) (tally start 0) fs)
 
 abbrev decreases-loop : tie.decreases-loop
 decreases-loop start l m acc₀ count₀ i₀ acc count i = m - i
@@ -48,14 +48,14 @@ add-count : tie.Need-overflow-add-count invariant-loop decreases-loop
 add-count c =
     let y = c.before.before.before.before in
     let x = y.before.before in
-    let q = x.before.before.before.before in
+    let q = x.before.before.before in
     omega (arith, q.counted-factor.ensures.1, within_value 61 _ _ y.x.given.1 x.counted.ensures.1)
 
 add-count-2 : tie.Need-overflow-add-count-2 invariant-loop decreases-loop
 add-count-2 c =
     let y = c.before.before.before.before in
     let x = y.before.before in
-    let q = x.before.before.before.before in
+    let q = x.before.before.before in
     let k = q.before.before.before.before.before in
     omega (arith, k.loop.invariant.0, k.loop.invariant.1, k.before.capped.ensures.0, q.counted-factor.ensures.1, within_value 61 _ _ y.x.given.1 x.counted.ensures.1)
 
@@ -67,7 +67,7 @@ returns c = (
   tt,
   λ v fs r.
       let x = c.before.before.before in
-      let q = x.before.before.before.before in
+      let q = x.before.before.before in
       let k = q.before.before.before.before.before.loop in
       let m = q.before.before.before.before.before.before in
       let a = m.before.args in
@@ -87,7 +87,7 @@ loop-again : tie.Need-loop-preserved invariant-loop decreases-loop
 loop-again c =
     let y = c.before.before.before.before in
     let x = y.before.before in
-    let q = x.before.before.before.before in
+    let q = x.before.before.before in
     let k = q.before.before.before.before.before.loop in
     let m = q.before.before.before.before.before.before in
     let a = m.before.args in (

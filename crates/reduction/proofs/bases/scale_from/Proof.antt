@@ -2,7 +2,7 @@
 use borrow.Author.Rules.{rules}
 use mathlib.Core.Path.{ap, ◌∙◌}
 use Rattle.floats.specs.Power.{tally}
-use Rattle.tables.specs.Scale.{numbers_in, counting, scale_from_lem}
+use Rattle.tables.specs.Scale.{doubles, counting, scale_from_lem}
 use Rattle.tables.specs.Held.{scaled_of, plain_of}
 use Rattle.tables.proofs.Forgetting.{forget_scale, plain-of}
 use Rattle.reduction.proofs.Resolved.{sizes}
@@ -19,7 +19,7 @@ returns : tie.Need-returns
 returns c v fs r =
     let x = c.before in
     let s = tally x.before.args.start 0 in
-    c.uncounted.ensures ∙ ap plain_of (x.counted-scale.ensures.1 v fs r) ∙ plain-of (scale_from_lem (counting (numbers_in v.mode)) (sizes v) s fs) ∙ ap scaled_of (forget_scale (numbers_in v.mode) (sizes v) s fs)
+    c.uncounted.ensures ∙ ap plain_of (x.counted-scale.ensures.1 v fs r) ∙ plain-of (scale_from_lem (counting doubles) (sizes v) s fs) ∙ ap scaled_of (forget_scale doubles (sizes v) s fs)
 
 pub scale-from-spec : {M : Type 1} → statement M
 scale-from-spec = tie.close (tie.spec counted-scale-requires uncounted-requires returns)

@@ -43,15 +43,15 @@ module _ (ks : List Facts) where
         e.names-ahead.ensures ∙ row.names_of ks s.args.row s.args.i at
 
   module _ (ss : List Slot) (w : tie.After-work-out) (at : (start (tests w).before.before).args.i ≡ length ks) where
-    sound-is : (start (tests w).before.before).args.bases ≡ count ks → Ranked ks (start (tests w).before.before).args.ranks.now → row_facts (start (tests w).before.before).args.mode ss ks (start (tests w).before.before).args.row ≡ worked_out (start (tests w).before.before).args.mode ss ks (start (tests w).before.before).args.row
+    sound-is : (start (tests w).before.before).args.bases ≡ count ks → Ranked ks (start (tests w).before.before).args.ranks.now → row_facts ss ks (start (tests w).before.before).args.row ≡ worked_out ss ks (start (tests w).before.before).args.row
     sound-is n p =
         let e : tie.After-names-ahead = tests w in
         let d : tie.Else3 = w.before.before.before.before in
-        row.sound_row _ ss ks (start e.before.before).args.row (sym (early-is e.before.before at n p) ∙ e.before.if1.left) (sym (names-are e at) ∙ d.before.before.if2.false) (sym d.before.def-fault.ensures ∙ d.if3.false)
+        row.sound_row ss ks (start e.before.before).args.row (sym (early-is e.before.before at n p) ∙ e.before.if1.left) (sym (names-are e at) ∙ d.before.before.if2.false) (sym d.before.def-fault.ensures ∙ d.if3.false)
 
     worked-is : (start (tests w).before.before).args.slots ≡ pack_slots ss
         → Paged ks (start (tests w).before.before).args.nums.now (start (tests w).before.before).args.dens.now (start (tests w).before.before).args.scales.now (start (tests w).before.before).args.ranks.now (start (tests w).before.before).args.based.now
-        → w.work-out.result ≡ worked_of (worked_out (start (tests w).before.before).args.mode ss ks (start (tests w).before.before).args.row)
+        → w.work-out.result ≡ worked_of (worked_out ss ks (start (tests w).before.before).args.row)
     worked-is l p = w.work-out.ensures ss ks l at (sym (names-are (tests w) at) ∙ w.before.before.before.before.before.before.if2.left) p.filed p.sized
 
 rank-met-requires : tie.Need-rank-met-requires
@@ -66,7 +66,7 @@ same_length c = search rules
 returns : tie.Need-returns
 returns c =
     let f : tie.After-row-fault = c.before in
-    record { room = (start f).requires.2; joins = λ ss ks l at n p. row.row_refused _ ss ks (start f).args.row _ _ _ _ _ 1 (row.early_fault _ ss ks (start f).args.row (sym (early-is ks f at n p.ranked) ∙ c.if1.true)) }
+    record { room = (start f).requires.2; joins = λ ss ks l at n p. row.row_refused ss ks (start f).args.row _ _ _ _ _ 1 (row.early_fault ss ks (start f).args.row (sym (early-is ks f at n p.ranked) ∙ c.if1.true)) }
 
 names-ahead-requires : tie.Need-names-ahead-requires
 names-ahead-requires c κs = short c
@@ -78,7 +78,7 @@ returns-2 : tie.Need-returns-2
 returns-2 c =
     let e : tie.After-names-ahead = c.before in
     let f : tie.After-row-fault = e.before.before in
-    record { room = (start f).requires.2; joins = λ ss ks l at n p. row.row_refused _ ss ks (start f).args.row _ _ _ _ _ 1 (row.name_fault _ ss ks (start f).args.row (sym (names-are ks e at) ∙ c.if2.true)) }
+    record { room = (start f).requires.2; joins = λ ss ks l at n p. row.row_refused ss ks (start f).args.row _ _ _ _ _ 1 (row.name_fault ss ks (start f).args.row (sym (names-are ks e at) ∙ c.if2.true)) }
 
 def-fault-requires : tie.Need-def-fault-requires
 def-fault-requires c κs = short c.before.before
@@ -91,8 +91,8 @@ returns-3 c =
     let e : tie.After-names-ahead = c.before.before.before in
     let f : tie.After-row-fault = e.before.before in record {
       room = (start f).requires.2;
-      joins = λ ss ks l at n p. row.row_refused _ ss ks (start f).args.row _ _ _ _ _ 2
-          (row.shape_fault _ ss ks (start f).args.row (sym (early-is ks f at n p.ranked) ∙ e.before.if1.false) (sym (names-are ks e at) ∙ c.before.before.if2.false) (sym c.before.def-fault.ensures ∙ c.if3.true));
+      joins = λ ss ks l at n p. row.row_refused ss ks (start f).args.row _ _ _ _ _ 2
+          (row.shape_fault ss ks (start f).args.row (sym (early-is ks f at n p.ranked) ∙ e.before.if1.false) (sym (names-are ks e at) ∙ c.before.before.if2.false) (sym c.before.def-fault.ensures ∙ c.if3.true));
     }
 
 work-out-requires : tie.Need-work-out-requires
@@ -127,7 +127,7 @@ returns-4 c =
     let w : tie.After-work-out = c.before.before in
     let e : tie.After-names-ahead = tests w in
     let f : tie.After-row-fault = e.before.before in
-    record { room = (start f).pre.2; joins = λ ss ks l at n p. row.work_refused _ ss ks (start f).args.row _ _ _ _ _ w.work-out.result (sound-is ks ss w at n p.ranked) (worked-is ks ss w at l p) c.if4.true }
+    record { room = (start f).pre.2; joins = λ ss ks l at n p. row.work_refused ss ks (start f).args.row _ _ _ _ _ w.work-out.result (sound-is ks ss w at n p.ranked) (worked-is ks ss w at l p) c.if4.true }
 
 mul-put-exps : tie.Need-overflow-mul-put-exps
 mul-put-exps c = search rules
@@ -198,9 +198,9 @@ returns-5 c =
         length-set s.args.based.now s.args.i k.base ∙ s.pre.2.4,
       );
       joins = λ ss ks l at n p.
-          subst (λ (x : List ℤ). RowIn s.args.mode ss ks s.args.row 0 x q.new.1.0 (set s.args.scales.now s.args.i k.scale) (set s.args.ranks.now s.args.i k.rank) (set s.args.based.now s.args.i k.base)) (sym q.ensures.0)
-          (subst (λ (x : List ℕ). RowIn s.args.mode ss ks s.args.row 0 (sets s.args.nums.now (s.args.i * 16) (tops k.exps)) x (set s.args.scales.now s.args.i k.scale) (set s.args.ranks.now s.args.i k.rank) (set s.args.based.now s.args.i k.base)) (sym q.ensures.1)
-          (row.work_stored _ ss ks s.args.row s.args.nums.now s.args.dens.now s.args.scales.now s.args.ranks.now s.args.based.now w.work-out.result (sound-is ks ss w at n p.ranked) (worked-is ks ss w at l p)
+          subst (λ (x : List ℤ). RowIn ss ks s.args.row 0 x q.new.1.0 (set s.args.scales.now s.args.i k.scale) (set s.args.ranks.now s.args.i k.rank) (set s.args.based.now s.args.i k.base)) (sym q.ensures.0)
+          (subst (λ (x : List ℕ). RowIn ss ks s.args.row 0 (sets s.args.nums.now (s.args.i * 16) (tops k.exps)) x (set s.args.scales.now s.args.i k.scale) (set s.args.ranks.now s.args.i k.rank) (set s.args.based.now s.args.i k.base)) (sym q.ensures.1)
+          (row.work_stored ss ks s.args.row s.args.nums.now s.args.dens.now s.args.scales.now s.args.ranks.now s.args.based.now w.work-out.result (sound-is ks ss w at n p.ranked) (worked-is ks ss w at l p)
           s.args.i at s.pre.0 (subst (λ (m : ℕ). m ≤ 16) (len_slots s.args.slots ss l) s.pre.1) s.pre.2 p a.before.before.before.before.if4.false));
     }
 

@@ -15,7 +15,7 @@ returns : tie.Need-returns
 returns c ks q f z =
     let s = c.before.before.before.before.before.before in
     let e = c.before.before.before.exps-of in
-    c.unworked.ensures ∙ no_base _ s.args.n ks s.args.row s.args.factor e.result (e.ensures ks q f) c.before.if1.true
+    c.unworked.ensures ∙ no_base s.args.n ks s.args.row s.args.factor e.result (e.ensures ks q f) c.before.if1.true
 
 key-fault-requires : tie.Need-key-fault-requires
 key-fault-requires c κs = search rules
@@ -27,7 +27,7 @@ returns-2 : tie.Need-returns-2
 returns-2 c ks q f z =
     let s = c.before.before.before.before.before.before.before.before.before in
     let e = c.before.before.before.before.before.before.exps-of in
-    c.unworked2.ensures ∙ no_key _ s.args.n ks s.args.row s.args.factor e.result (e.ensures ks q f) c.before.before.before.before.if1.false c.before.before.key-fault.result c.before.before.key-fault.ensures c.before.if2.true
+    c.unworked2.ensures ∙ no_key s.args.n ks s.args.row s.args.factor e.result (e.ensures ks q f) c.before.before.before.before.if1.false c.before.before.key-fault.result c.before.before.key-fault.ensures c.before.if2.true
 
 scale-of-requires : tie.Need-scale-of-requires
 scale-of-requires c κs = search rules
@@ -46,7 +46,7 @@ returns-3 c ks q f z =
     let s = c.before.before.before.before.before.before.before.before.before.before.before.before in
     let e = c.before.before.before.before.before.before.before.before.before.exps-of in
     let t = c.before.before.before.scale_of in
-    all_three _ s.args.n ks s.args.row s.args.factor e.result (e.ensures ks q f) c.before.before.before.before.before.before.before.if1.false c.before.before.before.before.before.key-fault.result c.before.before.before.before.before.key-fault.ensures c.before.before.before.before.if2.false _ (sym (t.ensures ks q z) ∙ c.before.s.given.1)
+    all_three s.args.n ks s.args.row s.args.factor e.result (e.ensures ks q f) c.before.before.before.before.before.before.before.if1.false c.before.before.before.before.before.key-fault.result c.before.before.before.before.before.key-fault.ensures c.before.before.before.before.if2.false _ (sym (t.ensures ks q z) ∙ c.before.s.given.1)
 
 returns-4 : tie.Need-returns-4
 returns-4 c ks q f z =
@@ -54,7 +54,7 @@ returns-4 c ks q f z =
     let e = c.before.before.before.before.before.before.before.before.before.before.exps-of in
     let t = c.before.before.before.before.scale_of in
     c.unworked3.ensures
-    ∙ no_scale _ s.args.n ks s.args.row s.args.factor e.result (e.ensures ks q f) c.before.before.before.before.before.before.before.before.if1.false c.before.before.before.before.before.before.key-fault.result c.before.before.before.before.before.before.key-fault.ensures c.before.before.before.before.before.if2.false _ (sym (t.ensures ks q z) ∙ c.before.before.s2.given.1)
+    ∙ no_scale s.args.n ks s.args.row s.args.factor e.result (e.ensures ks q f) c.before.before.before.before.before.before.before.before.if1.false c.before.before.before.before.before.before.key-fault.result c.before.before.before.before.before.before.key-fault.ensures c.before.before.before.before.before.if2.false _ (sym (t.ensures ks q z) ∙ c.before.before.s2.given.1)
 
 pub derived-row-spec : {M : Type 1} → statement M
 derived-row-spec =

@@ -7,7 +7,7 @@ use native.Mathlib.Omega.{arith}
 use lib.ListN.{length, drop, get_or}
 use lib.Ieee.{Float, nan}
 use Rattle.floats.specs.Power.{one}
-use Rattle.tables.specs.Scale.{numbers_in, scale_from_lem, scale, size_by}
+use Rattle.tables.specs.Scale.{doubles, scale_from_lem, scale, size_by}
 use Rattle.tables.specs.Rows.{Facts, scale_at, def_of}
 use Rattle.tables.specs.Held.{Reaching, Sized}
 use Rattle.tables.proofs.Terms.{get_any, nil_factor, Defined, row_below}
@@ -17,18 +17,18 @@ use Rattle.tables.proofs.rows.scale_of.Statement.{statement}
 use Rattle.tables.proofs.rows.scale_of.Tie as tie
 
 abbrev invariant-loop : tie.invariant-loop
-invariant-loop mode scales row m acc₀ j₀ acc j =
+invariant-loop scales row m acc₀ j₀ acc j =
     (j ≤ m)
-    × ((ks : List Facts) → Reaching ks (def_of row) → Sized ks scales → scale_from_lem (numbers_in mode) (size_by (scale_at ks)) acc (drop j (def_of row)) ≡ scale (numbers_in mode) (size_by (scale_at ks)) (def_of row))
+    × ((ks : List Facts) → Reaching ks (def_of row) → Sized ks scales → scale_from_lem doubles (size_by (scale_at ks)) acc (drop j (def_of row)) ≡ scale doubles (size_by (scale_at ks)) (def_of row))
 
 abbrev decreases-loop : tie.decreases-loop
-decreases-loop mode scales row m acc₀ j₀ acc j = m - j
+decreases-loop scales row m acc₀ j₀ acc j = m - j
 
-defined : (c : tie.Start invariant-loop decreases-loop) → Defined c.args.t2
+defined : (c : tie.Start invariant-loop decreases-loop) → Defined c.args.t1
 defined c = record { short = c.requires.0; full = search (rules, unmapped) }
 
 -- a row that the definition names has its place
-row_at : (c : tie.Start invariant-loop decreases-loop) (j : ℕ) → j < c.args.t2.len → (get_or c.args.t2.def j nil_factor).row < 128
+row_at : (c : tie.Start invariant-loop decreases-loop) (j : ℕ) → j < c.args.t1.len → (get_or c.args.t1.def j nil_factor).row < 128
 row_at c j h = row_below (defined c) j h nil_factor 128 c.requires.1
 
 -- its scale, read there
@@ -71,9 +71,9 @@ returns : tie.Need-returns invariant-loop decreases-loop
 returns c ks q p =
     let s : tie.Start invariant-loop decreases-loop = c.before.before.before.before.before.before.before.before.before.before.before.before in
     let o = c.before.before.before.before.before.before.before.before.before.before.loop in
-    let h : o.j < s.args.t2.len = omega arith in
-    let r : (get_or s.args.t2.def o.j nil_factor).row < length s.args.scales.now = omega (arith, row_at s o.j h) in
-    factor_off _ s.args.t2 ks o.j o.acc c.before.before.before.before.before.before.factor-of.result _ (defined s) h c.before.before.before.before.before.before.factor-of.ensures
+    let h : o.j < s.args.t1.len = omega arith in
+    let r : (get_or s.args.t1.def o.j nil_factor).row < length s.args.scales.now = omega (arith, row_at s o.j h) in
+    factor_off s.args.t1 ks o.j o.acc c.before.before.before.before.before.before.factor-of.result _ (defined s) h c.before.before.before.before.before.before.factor-of.ensures
     (scale-read ks s.args.scales.now _ p (row_below (defined s) o.j h nil_factor (length ks) q) r) (o.invariant.1 ks q p) _ (sym c.before.before.before.raised.ensures ∙ c.before.x2.given.1)
 
 add-j : tie.Need-overflow-add-j invariant-loop decreases-loop
@@ -86,10 +86,10 @@ loop-again : tie.Need-loop-preserved invariant-loop decreases-loop
 loop-again c =
     let s : tie.Start invariant-loop decreases-loop = c.before.before.before.before.before.before.before.before.before.before.before.before in
     let o = c.before.before.before.before.before.before.before.before.before.before.loop in
-    let h : o.j < s.args.t2.len = omega arith in
-    let r : (get_or s.args.t2.def o.j nil_factor).row < length s.args.scales.now = omega (arith, row_at s o.j h) in (
+    let h : o.j < s.args.t1.len = omega arith in
+    let r : (get_or s.args.t1.def o.j nil_factor).row < length s.args.scales.now = omega (arith, row_at s o.j h) in (
       omega arith,
-      λ ks q p. factor_on _ s.args.t2 ks o.j o.acc c.before.before.before.before.before.before.factor-of.result _ (defined s) h c.before.before.before.before.before.before.factor-of.ensures
+      λ ks q p. factor_on s.args.t1 ks o.j o.acc c.before.before.before.before.before.before.factor-of.result _ (defined s) h c.before.before.before.before.before.before.factor-of.ensures
           (scale-read ks s.args.scales.now _ p (row_below (defined s) o.j h nil_factor (length ks) q) r) (o.invariant.1 ks q p) _ (sym c.before.before.before.raised.ensures ∙ c.before.x.given.1),
     )
 
@@ -97,7 +97,7 @@ returns-2 : tie.Need-returns-2 invariant-loop decreases-loop
 returns-2 c ks q p =
     let s : tie.Start invariant-loop decreases-loop = c.before.before.before in
     let o = c.before.loop in
-    factors_end _ s.args.t2 ks o.j o.acc (defined s) (omega arith) (o.invariant.1 ks q p)
+    factors_end s.args.t1 ks o.j o.acc (defined s) (omega arith) (o.invariant.1 ks q p)
 
 pub scale-of-spec : {M : Type 1} → statement M
 scale-of-spec =

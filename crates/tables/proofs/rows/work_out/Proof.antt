@@ -25,14 +25,14 @@ derived-row-requires c κs = search rules
 returns : tie.Need-returns
 returns c ss ks e n q f z =
     let a = c.before.before.before.before.before.args in
-    base_is _ ss ks a.row c.own-exps.result c.before.enum_told.given.1 (c.own-exps.ensures ss e ∙ ap (λ (m : ℕ). pack_exps (map (self_exp m) ss)) n)
+    base_is ss ks a.row c.own-exps.result c.before.enum_told.given.1 (c.own-exps.ensures ss e ∙ ap (λ (m : ℕ). pack_exps (map (self_exp m) ss)) n)
 
 returns-2 : tie.Need-returns-2
 returns-2 c ss ks e n q f z =
     let a = c.before.before.before.before.before.before.args in
     c.derived-row.ensures ks q f z
-    ∙ ap (λ (m : ℕ). worked_of (row_derived a.mode m ks a.row c.before.before.k.given.0.0)) (len_slots a.slots ss e)
-    ∙ derived_is _ ss ks a.row _ c.before.before.k.given.1
+    ∙ ap (λ (m : ℕ). worked_of (row_derived m ks a.row c.before.before.k.given.0.0)) (len_slots a.slots ss e)
+    ∙ derived_is ss ks a.row _ c.before.before.k.given.1
 
 pub work-out-spec : {M : Type 1} → statement M
 work-out-spec = tie.close (tie.spec enum_told own-exps-requires enum-known-k derived-row-requires returns returns-2)

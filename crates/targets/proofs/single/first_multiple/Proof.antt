@@ -89,11 +89,8 @@ yOf c = (base_of c).before.base-of-item.result.at
 abbrev wOf : AtLoop → Exponent
 wOf l = l.before.before.d.given.0.0
 
-long-given : (c : tie.Start invariant-loop decreases-loop invariant-factors decreases-factors) → length c.args.t2 ≡ 16
-long-given c = search rules
-
 long-x : (c : Differs) → length (xOf c) ≡ 16
-long-x c = long-given (factors_of (base_of c)).before.before.before.before
+long-x c = search rules
 
 long-base : (c : Based) → length c.before.base-of-item.result.at ≡ 16
 long-base c = search (rules, unmapped)
