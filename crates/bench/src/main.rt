@@ -396,13 +396,13 @@ fn tried(line: &[u8]) -> bool {
 }
 
 // How many cases there were, and how many of them differed.
-#[derive(Drop)]
+#[derive(Clone, Copy, Drop)]
 struct Tally {
     cases: u64,
     wrong: u64,
 }
 
-#[derive(Drop)]
+#[derive(Clone, Copy, Drop)]
 enum Outcome {
     Right,
     Wrong,

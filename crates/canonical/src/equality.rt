@@ -8,7 +8,7 @@ ghost use Rattle.canonical.specs.Equality.{verdict_of};
 use super::form;
 use tables::Items;
 
-#[derive(Drop)]
+#[derive(Clone, Copy, Drop)]
 pub enum Verdict {
     Yes,
     No,

@@ -18,7 +18,7 @@ use tables::{Item, Items};
 use units::Factor;
 
 // The exponent that two factors of one row and prefix have in common, or none.
-#[derive(Drop)]
+#[derive(Clone, Copy, Drop)]
 pub enum Shared {
     Takes(Exponent),
     Nothing,
@@ -121,7 +121,7 @@ pub fn over_common(l: Items, m: Items) -> Items
 // ---- a canonical list over the common factors
 
 // What is left of a factor: all of it, an exponent, or the number of the refusal.
-#[derive(Drop)]
+#[derive(Clone, Copy, Drop)]
 pub enum Left {
     Whole,
     Part(Exponent),

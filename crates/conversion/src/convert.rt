@@ -16,7 +16,7 @@ use tables::Items;
 use tables::scales::Tallied;
 
 // A value, or the number of the refusal.
-#[derive(Drop)]
+#[derive(Clone, Copy, Drop)]
 pub enum Converted {
     Value(f64),
     Refused(u32),
@@ -35,7 +35,7 @@ pub fn refusal_of(c: Converted) -> u32
 // ---- the two scales by which any value is converted
 
 // The own scale and the target's, and the multiplications that both took (02, order 5); or the number of the refusal of any value.
-#[derive(Drop)]
+#[derive(Clone, Copy, Drop)]
 pub struct Scales {
     pub own: f64,
     pub target: f64,
@@ -160,7 +160,7 @@ fn lessening(l: Items, m: Items, c: Items, n: usize, nums: &[i32], dens: &[u32])
 
 // What a conversion between two lists makes of any value: the number of a refusal, which is 0 if there is none; or, of
 // equal lists, the value itself; or, but for a zero, the value by two scales.
-#[derive(Drop)]
+#[derive(Clone, Copy, Drop)]
 pub struct Rate {
     pub scales: Scales,
     pub refusal: u32,

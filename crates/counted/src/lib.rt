@@ -19,7 +19,7 @@ use units::{Factors, Quantity, Rows};
 use values::answers;
 
 // A converted quantity and the multiplications that the conversion took; or the number of the refusal, beside the empty quantity and 0.
-#[derive(Drop)]
+#[derive(Clone, Copy, Drop)]
 pub struct Counted {
     pub quantity: Quantity,
     pub count: u32,

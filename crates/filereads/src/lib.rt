@@ -9,14 +9,14 @@ use groups::{Number, read_number, read_up_to, unfold};
 use units::{Factor, Kind, Row, Rows};
 
 // A factor and the place behind it.
-#[derive(Drop)]
+#[derive(Clone, Copy, Drop)]
 pub enum Part {
     Whole(Factor, usize),
     Broken,
 }
 
 // The places of a row, and the place behind its factors; clean where they aren't whole.
-#[derive(Drop)]
+#[derive(Clone, Copy, Drop)]
 pub struct Places {
     pub at: [Factor; 8],
     pub next: usize,
@@ -24,7 +24,7 @@ pub struct Places {
 }
 
 // A row and the place behind it; the empty row where it isn't whole.
-#[derive(Drop)]
+#[derive(Clone, Copy, Drop)]
 pub struct RowRead {
     pub row: Row,
     pub next: usize,
@@ -185,7 +185,7 @@ pub fn read_row(s: &[u8], at: usize) -> RowRead
 }
 
 // Rows, as many as are whole, and the place where the first that isn't begins, or where they end. Over 128 are counted and not kept.
-#[derive(Drop)]
+#[derive(Clone, Copy, Drop)]
 pub struct Front {
     pub rows: Rows,
     pub next: usize,
@@ -218,7 +218,7 @@ pub fn read_rows(s: &[u8], at: usize, n: usize) -> Front
 }
 
 // A whole file: the rows, and whether it is one, with so many places for them.
-#[derive(Drop)]
+#[derive(Clone, Copy, Drop)]
 pub struct TableRead {
     pub rows: Rows,
     pub whole: bool,

@@ -6,7 +6,7 @@ ghost use Rattle.groups.specs.Numbers.{number_bytes, up_to?, folded, unfolded};
 ghost use Rattle.groups.specs.Held.{number_of};
 
 // A number and the place behind it.
-#[derive(Drop)]
+#[derive(Clone, Copy, Drop)]
 pub enum Number {
     Found(u32, usize),
     Missing,

@@ -2,7 +2,7 @@
 ghost use Rattle.std.specs.Prelude.{◌≡◌, ◌-◌, ◌≤◌, length};
 ghost use Rattle.inflow.specs.Inflow.{moved, Refilled};
 
-#[derive(Drop)]
+#[derive(Clone, Copy, Drop)]
 pub struct Held {
     pub at: usize,
     pub end: usize,

@@ -10,7 +10,7 @@ ghost use Rattle.keys.specs.Held.{keyed_of, part};
 use exponents::{Exponent, Multiple, signs};
 
 // A key's numbers, one for each base row in rank order, or zeros beside the number of the refusal.
-#[derive(Drop)]
+#[derive(Clone, Copy, Drop)]
 pub struct Key {
     pub nums: [i64; 16],
     pub refusal: u32,

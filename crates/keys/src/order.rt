@@ -5,7 +5,7 @@ ghost use Rattle.keys.specs.Key.{entries};
 ghost use Rattle.keys.specs.Orders.{lists, pairs};
 ghost use Rattle.keys.specs.Held.{sense_of, more, key_at};
 
-#[derive(Drop)]
+#[derive(Clone, Copy, Drop)]
 pub enum Sense {
     Less,
     Equal,

@@ -11,14 +11,14 @@ ghost use Rattle.exponents.specs.Outcome.{given};
 use exponents::refusals;
 
 // How many distinct values there are, or the number of a refusal.
-#[derive(Drop)]
+#[derive(Clone, Copy, Drop)]
 pub enum Told {
     Number(usize),
     Refused(u32),
 }
 
 // A span's quotient, or the number of a refusal.
-#[derive(Drop)]
+#[derive(Clone, Copy, Drop)]
 pub enum Quotient {
     Value(f64),
     Refused(u32),

@@ -19,7 +19,7 @@ use units::{Factors, Rows};
 use wire::{arguments, reading};
 
 // A target unit, a tolerance in that unit, and a degree.
-#[derive(Drop)]
+#[derive(Clone, Copy, Drop)]
 pub struct Rule {
     pub unit: Factors,
     pub tolerance: f64,
@@ -27,7 +27,7 @@ pub struct Rule {
 }
 
 // A rule, a value in its unit, and the place of a span's left knot.
-#[derive(Drop)]
+#[derive(Clone, Copy, Drop)]
 pub struct Span {
     pub rule: Rule,
     pub x: f64,
@@ -35,14 +35,14 @@ pub struct Span {
 }
 
 // The conversions of the units met last, each with the place of a knot's list that has the unit; the oldest goes next.
-#[derive(Drop)]
+#[derive(Clone, Copy, Drop)]
 struct Shelf {
     rates: [Rate; 8],
     places: [usize; 8],
     next: usize,
 }
 
-#[derive(Drop)]
+#[derive(Clone, Copy, Drop)]
 struct Turn {
     shelf: Shelf,
     rate: Rate,

@@ -12,7 +12,7 @@ use tables::{Admitted, Items, Slots};
 use units::{Factors, Rows};
 
 // Two resolved lists and the table's base rows; or nothing beside the number of the refusal.
-#[derive(Drop)]
+#[derive(Clone, Copy, Drop)]
 pub struct Opened {
     pub a: Items,
     pub b: Items,

@@ -6,7 +6,7 @@ ghost use Rattle.powers.specs.Held.{whole_of};
 use exponents::refusals::{NONWHOLE, RANGE};
 
 // A whole number within ±2147483647, or the number of the refusal.
-#[derive(Drop)]
+#[derive(Clone, Copy, Drop)]
 pub enum Whole {
     Number(i32),
     Refused(u32),

@@ -15,7 +15,7 @@ use lists::opening::Opened;
 use units::{Quantity, Rows};
 
 // The order of two values, or the number of the refusal.
-#[derive(Drop)]
+#[derive(Clone, Copy, Drop)]
 pub enum Compared {
     Less,
     Equal,

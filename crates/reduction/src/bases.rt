@@ -26,7 +26,7 @@ pub fn capped(n: usize) -> usize
 
 // Sums so far, one for each base row before `stop`. Each item is read once, so they grow factor by factor, while 01 goes
 // base row by base row: a refusal ends the sums from its base row on, and so the lowest base row that refuses decides.
-#[derive(Drop)]
+#[derive(Clone, Copy, Drop)]
 pub struct Partial {
     pub at: [Exponent; 16],
     pub stop: usize,

@@ -10,7 +10,7 @@ use exponents::{Exponent, Fraction};
 use tables::Items;
 
 // The exponent that b is to be raised to, or none; or the number of the refusal.
-#[derive(Drop)]
+#[derive(Clone, Copy, Drop)]
 pub enum Multiple {
     Times(Exponent),
     None,

@@ -13,7 +13,7 @@ use tables::{Items, Slot, Slots};
 use units::{Factor, Factors, Prefix};
 
 // A reduced list and the scale; or the number of the refusal.
-#[derive(Drop)]
+#[derive(Clone, Copy, Drop)]
 pub struct Reduced {
     pub unit: Factors,
     pub scale: f64,
@@ -21,7 +21,7 @@ pub struct Reduced {
 }
 
 // Which of two units has the smaller scale; or the number of the refusal.
-#[derive(Drop)]
+#[derive(Clone, Copy, Drop)]
 pub enum Smaller {
     First,
     Second,

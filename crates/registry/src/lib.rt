@@ -181,7 +181,7 @@ fn converted(
 // ---- the candidates in turn
 
 // The best so far, or the one that has won; or the number of the refusal.
-#[derive(Drop)]
+#[derive(Clone, Copy, Drop)]
 pub struct Choice {
     pub best: Quantity,
     pub won: bool,

@@ -8,7 +8,7 @@ use recorded::Tally;
 
 mod recorded; // records compared with the answers of the calls
 
-#[derive(Drop)]
+#[derive(Clone, Copy, Drop)]
 struct Both {
     h: Held,
     t: Tally,

@@ -4,7 +4,7 @@ ghost use Rattle.std.specs.Prelude.{◌≡◌, ◌+◌, ◌≤◌, length};
 
 use wire::numbers::read_u32;
 
-#[derive(Drop)]
+#[derive(Clone, Copy, Drop)]
 pub struct Tally {
     // How many bytes of the input were used up.
     pub used: usize,

@@ -29,7 +29,7 @@ use values::answers::Answer;
 use wire::{numbers, reading, writing};
 
 // 0 and the answer's length in bytes, or the refusal's number and 0.
-#[derive(Drop)]
+#[derive(Clone, Copy, Drop)]
 pub struct Reply {
     pub refusal: u32,
     pub len: usize,

@@ -19,7 +19,7 @@ use tables::{Item, Items, pages};
 use units::{Factor, Factors};
 
 // Two resolved lists, or empty ones beside the number of the refusal.
-#[derive(Drop)]
+#[derive(Clone, Copy, Drop)]
 pub struct Resolved {
     pub a: Items,
     pub b: Items,
@@ -27,7 +27,7 @@ pub struct Resolved {
 }
 
 // How many factors come before one: by key, rank and row; by key alone.
-#[derive(Drop)]
+#[derive(Clone, Copy, Drop)]
 struct Count {
     place: u32,
     class: u32,

@@ -21,7 +21,7 @@ use values::answers::Answer;
 // ---- third step
 
 // The groups before place `next`: their targets joined, and the product of 1 of each converted; or the number of the refusal.
-#[derive(Drop)]
+#[derive(Clone, Copy, Drop)]
 pub struct Progress {
     pub unit: Items,
     pub factor: f64,

@@ -10,7 +10,7 @@ use wire::numbers::{read_u32, write_u32};
 
 // How a request lies: `kind` is WHOLE, and its arguments end at `to`; or SHORT, where more is needed; or BAD, where it
 // ends the stream.
-#[derive(Drop)]
+#[derive(Clone, Copy, Drop)]
 pub struct Frame {
     pub kind: u32,
     pub to: usize,
@@ -28,14 +28,14 @@ pub const LONGEST: usize = 22536;
 pub const PLACE: usize = 8 + LONGEST;
 
 // Where an argument lies.
-#[derive(Drop)]
+#[derive(Clone, Copy, Drop)]
 struct Part {
     from: usize,
     to: usize,
 }
 
 // How many requests were answered, the bytes that they and their answers take, and how the next one lies.
-#[derive(Drop)]
+#[derive(Clone, Copy, Drop)]
 pub struct Fed {
     pub count: usize,
     pub used: usize,

@@ -12,27 +12,27 @@ use replies::Reply;
 use units::Rows;
 
 // 0 and how many rows, or the refusal's number and 0.
-#[derive(Drop)]
+#[derive(Clone, Copy, Drop)]
 pub struct Told {
     pub refusal: u32,
     pub len: usize,
 }
 
 // The rows of a file, none where it is refused.
-#[derive(Drop)]
+#[derive(Clone, Copy, Drop)]
 pub struct Read {
     pub rows: Rows,
     pub told: Told,
 }
 
 // How many rows are kept, and the byte where the first row not kept begins, or where the rows end.
-#[derive(Drop)]
+#[derive(Clone, Copy, Drop)]
 pub struct Kept {
     pub rows: usize,
     pub byte: usize,
 }
 
-#[derive(Drop)]
+#[derive(Clone, Copy, Drop)]
 pub struct Salvaged {
     pub rows: Rows,
     pub told: Kept,

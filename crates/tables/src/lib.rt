@@ -13,21 +13,21 @@ pub mod rows; // one row worked out
 pub mod admission; // the table's rows in row order
 
 // A base row: its number and its rank.
-#[derive(Drop)]
+#[derive(Clone, Copy, Drop)]
 pub struct Slot {
     pub row: u32,
     pub rank: u16,
 }
 
 // The base rows in rank order.
-#[derive(Drop)]
+#[derive(Clone, Copy, Drop)]
 pub struct Slots {
     pub at: [Slot; 16],
     pub len: usize,
 }
 
 // What is known of an admitted row: its base exponents in the order of the slots, scale, rank and kind.
-#[derive(Drop)]
+#[derive(Clone, Copy, Drop)]
 pub struct Known {
     pub exps: [Exponent; 16],
     pub scale: f64,
@@ -36,7 +36,7 @@ pub struct Known {
 }
 
 // The base rows and the number of rows of an admitted table; or a refusal's number, and how many rows stood before the fault.
-#[derive(Drop)]
+#[derive(Clone, Copy, Drop)]
 pub struct Admitted {
     pub slots: Slots,
     pub len: usize,
@@ -45,7 +45,7 @@ pub struct Admitted {
 
 // A factor with what is known of its row: its scale, its place in the order of rows and its key's class among the rows of
 // the call, and whether it is base. Its base exponents stay in the table's arrays, by the row's number: lists are copied often.
-#[derive(Drop)]
+#[derive(Clone, Copy, Drop)]
 pub struct Item {
     pub factor: Factor,
     pub scale: f64,
@@ -55,7 +55,7 @@ pub struct Item {
 }
 
 // A resolved list.
-#[derive(Drop)]
+#[derive(Clone, Copy, Drop)]
 pub struct Items {
     pub at: [Item; 16],
     pub len: usize,

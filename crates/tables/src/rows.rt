@@ -16,14 +16,14 @@ use exponents::{Exponent, Fraction};
 use units::{Kind, Row};
 
 // What is known of a row, or the number of the refusal.
-#[derive(Drop)]
+#[derive(Clone, Copy, Drop)]
 pub struct Worked {
     pub known: Known,
     pub refusal: u32,
 }
 
 // Base exponents in the order of the slots, or the number of the refusal.
-#[derive(Drop)]
+#[derive(Clone, Copy, Drop)]
 pub struct Exps {
     pub at: [Exponent; 16],
     pub refusal: u32,

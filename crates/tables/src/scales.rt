@@ -9,14 +9,14 @@ use exponents::refusals::FRACTION;
 use floats::Tally;
 
 // A scale, or the number of the refusal.
-#[derive(Drop)]
+#[derive(Clone, Copy, Drop)]
 pub enum Scaled {
     Value(f64),
     Refused(u32),
 }
 
 // The same with the multiplications that it took.
-#[derive(Drop)]
+#[derive(Clone, Copy, Drop)]
 pub enum Tallied {
     Value(Tally),
     Refused(u32),

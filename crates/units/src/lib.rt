@@ -8,13 +8,13 @@ pub mod lists; // lists of factors: shape, product, quotient, power
 // Any bits may stand in these records. A struct's array comes first.
 
 // 10 or 2 to the n. Metric(0) and Binary(0) both mean none, yet differ.
-#[derive(Drop)]
+#[derive(Clone, Copy, Drop)]
 pub enum Prefix {
     Metric(i32),
     Binary(i32),
 }
 
-#[derive(Drop)]
+#[derive(Clone, Copy, Drop)]
 pub struct Factor {
     pub row: u32,
     pub prefix: Prefix,
@@ -22,20 +22,20 @@ pub struct Factor {
 }
 
 // The first `len` places; what stands past them is never read.
-#[derive(Drop)]
+#[derive(Clone, Copy, Drop)]
 pub struct Factors {
     pub at: [Factor; 16],
     pub len: usize,
 }
 
 // What a row is: base, or derived with its factor.
-#[derive(Drop)]
+#[derive(Clone, Copy, Drop)]
 pub enum Kind {
     Base,
     Derived(f64),
 }
 
-#[derive(Drop)]
+#[derive(Clone, Copy, Drop)]
 pub struct Row {
     pub def: [Factor; 8],
     pub len: usize,
@@ -44,28 +44,28 @@ pub struct Row {
 }
 
 // `len` is the true count: over 128 is TABLE.
-#[derive(Drop)]
+#[derive(Clone, Copy, Drop)]
 pub struct Rows {
     pub at: [Row; 128],
     pub len: usize,
 }
 
 // A binary64 value, a factor list and the mark that permits simplifying.
-#[derive(Drop)]
+#[derive(Clone, Copy, Drop)]
 pub struct Quantity {
     pub unit: Factors,
     pub value: f64,
     pub mark: bool,
 }
 
-#[derive(Drop)]
+#[derive(Clone, Copy, Drop)]
 pub struct Candidate {
     pub unit: Factors,
     pub rank: u16,
 }
 
 // `len` is the true count: over 32 is SHAPE.
-#[derive(Drop)]
+#[derive(Clone, Copy, Drop)]
 pub struct Candidates {
     pub at: [Candidate; 32],
     pub len: usize,

@@ -11,7 +11,7 @@ use exponents::refusals::{ROOM, SHAPE, UNKNOWN};
 use exponents::{Exponent, Fraction};
 
 // A list, or the empty list beside the number of the refusal.
-#[derive(Drop)]
+#[derive(Clone, Copy, Drop)]
 pub struct Made {
     pub unit: Factors,
     pub refusal: u32,
@@ -216,7 +216,7 @@ pub fn quotient(rows: usize, a: Factors, b: Factors) -> Made
 // ---- power
 
 // A factor with its exponent multiplied, or the number of the refusal.
-#[derive(Drop)]
+#[derive(Clone, Copy, Drop)]
 pub enum Raised {
     Power(Factor),
     Refused(u32),

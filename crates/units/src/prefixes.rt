@@ -8,7 +8,7 @@ use exponents::refusals::SHAPE;
 use floats::Tally;
 
 // The factor of a prefix, or the number of the refusal.
-#[derive(Drop)]
+#[derive(Clone, Copy, Drop)]
 pub enum PrefixFactor {
     Value(f64),
     Refused(u32),

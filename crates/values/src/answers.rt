@@ -9,7 +9,7 @@ ghost use Rattle.values.specs.Quantities.{made, no_quantity};
 use units::{Factors, Quantity};
 
 // A quantity; or the number of the refusal beside value bits zero, the empty list and no mark.
-#[derive(Drop)]
+#[derive(Clone, Copy, Drop)]
 pub struct Answer {
     pub quantity: Quantity,
     pub refusal: u32,
