@@ -1,5 +1,7 @@
 // The counted conversions from bytes to bytes (02, order 5): the table and the arguments as bytes, the answer into lent room.
 // The calls of the byte form, under its names.
+#![tactic(auto)]
+
 ghost use Rattle.std.specs.Prelude.{◌≡◌, ℕ};
 ghost use Rattle.exponents.specs.Outcome.{Outcome, apply};
 ghost use Rattle.units.specs.declared.Quantity.{Quantity as Quantityᵛ};

@@ -1,4 +1,6 @@
 // The calls on table files from bytes to bytes: so many bytes, or so many places for rows, are lent for the answer.
+#![tactic(auto)]
+
 ghost use Rattle.std.specs.Prelude.{◌≡◌, List, ◌≤◌, length};
 ghost use Rattle.exponents.specs.Outcome.{given};
 ghost use Rattle.exponents.specs.Words.{All};

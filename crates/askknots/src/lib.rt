@@ -1,4 +1,6 @@
 // The calls on knot vectors from bytes to bytes: the table, the knots and the rule as bytes, the answer into lent room.
+#![tactic(auto)]
+
 ghost use Rattle.std.specs.Prelude.{◌≡◌, List, ◌+◌, ◌*◌, ◌≤◌, Float, length, take};
 ghost use Rattle.std.proofs.lemmas.List.Edits.{sets};
 ghost use Rattle.exponents.specs.Outcome.{Outcome, given, apply};

@@ -1,5 +1,7 @@
 // The calls on lists from bytes to bytes, and the prefix factor: the table and the arguments as bytes, the answer into
 // lent room. The calls of the byte form, under its names.
+#![tactic(auto)]
+
 ghost use Rattle.replies.specs.Held.{Replied};
 ghost use Rattle.asklists.specs.Calls as spec;
 

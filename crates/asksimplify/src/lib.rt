@@ -1,5 +1,7 @@
 // The two simplifications from bytes to bytes: the table and the arguments as bytes, the answer into lent room.
 // The calls of the byte form, under its names.
+#![tactic(auto)]
+
 ghost use Rattle.replies.specs.Held.{Replied};
 ghost use Rattle.asksimplify.specs.Calls as spec;
 

@@ -7,6 +7,8 @@
 // A quantity: its value's bits; its list; m marked or u unmarked. A list: a row, then how it is taken. `.` to 1, `h` to 1/2, `d` to 2, `t` to 3, `w` times hour;
 // `B` with Binary(0), `K` Binary(10), `P` Metric(1100), `Q` Metric(1101); `*` so many factors metre; and whatever the row is,
 // `_` no factor, `g` gram·metre·second^-2, `G` the same of kilogram, `s` gram^(1/2)·metre^(1/2)·second^-1. `cases.py` writes the lines.
+#![tactic(auto)]
+
 use canonical::equality::Verdict;
 use exponents::Exponent;
 use keys::order::Sense;

@@ -1,4 +1,6 @@
 // Answers a stream of requests: reads them from standard input until it ends, and writes the answers in order.
+#![tactic(auto)]
+
 ghost use Rattle.std.specs.Prelude.{◌≡◌, ◌+◌, ◌≤◌, length};
 
 use inflow::Held;

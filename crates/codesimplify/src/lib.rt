@@ -1,4 +1,6 @@
 // By their codes, the two simplifications: how many arguments each has, and the call itself.
+#![tactic(auto)]
+
 ghost use Rattle.std.specs.Prelude.{◌≡◌, ◌≤◌};
 ghost use Rattle.replies.specs.Held.{Replied};
 ghost use Rattle.codes.specs.Codes.{look};

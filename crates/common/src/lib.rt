@@ -1,5 +1,7 @@
 // The common factors of two canonical lists, and a canonical list over them (01, "Conversion, sums, comparison").
 // Public: `over_common`, `lessened`. Neither asks anything of its caller.
+#![tactic(auto)]
+
 ghost use Rattle.std.specs.Prelude.{◌≡◌, false, List, map};
 ghost use Rattle.exponents.specs.Fractions.{faulty as isFaulty};
 ghost use Rattle.units.specs.declared.Factor.{Factor as Factorᵛ};

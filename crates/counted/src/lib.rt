@@ -1,5 +1,7 @@
 // Conversion of quantities with the multiplications that it takes inside the power rule (02, order 5): `convert_to_counted`, `convert_merged_counted`. Neither asks anything of its caller.
 // Each has a half, `.._over`, for a table and lists that are opened already.
+#![tactic(auto)]
+
 ghost use Rattle.std.specs.Prelude.{◌≡◌, List};
 ghost use Rattle.exponents.specs.Outcome.{Outcome, apply};
 ghost use Rattle.floats.specs.declared.Tally.{Tally as Tallyᵛ};

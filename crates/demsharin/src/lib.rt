@@ -1,5 +1,7 @@
 // The library as it ships: the calls over lent rows, passed on here, and as exported C functions over bytes, in `exports`,
 // `files`, `knots` and `counted`.
+#![tactic(auto)]
+
 pub use lentcalls::{
     abs, add, canonical, checked_div, checked_power, compare, convert_merged,
     convert_merged_counted, convert_to, convert_to_counted, equal, full_simplify,

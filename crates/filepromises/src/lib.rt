@@ -1,1 +1,2 @@
 // The promises of 02's order 1 on table files: theorems only.
+#![tactic(auto)]

@@ -1,4 +1,6 @@
 // Factors, rows and tables from bytes, each with the place behind it; what isn't whole is told from what is.
+#![tactic(auto)]
+
 ghost use Rattle.std.specs.Prelude.{◌≡◌, ◌+◌, ◌≤◌, length, drop};
 ghost use Rattle.groups.specs.Taken.{run?};
 ghost use Rattle.files.specs.Records.{factor?, derived?, row?, base_row, front, table?};

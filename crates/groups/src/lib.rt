@@ -1,5 +1,7 @@
 // Numbers in groups of seven bits, the low group first, the high bit set on all but the last; the shortest form only.
 // Signed numbers are folded: 0, -1, 1, -2 are 0, 1, 2, 3.
+#![tactic(auto)]
+
 ghost use Rattle.std.specs.Prelude.{◌≡◌, ◌+◌, ◌≤◌, ◌<◌, length, drop};
 ghost use Rattle.std.proofs.lemmas.List.Edits.{sets};
 ghost use Rattle.groups.specs.Numbers.{number_bytes, up_to?, folded, unfolded};

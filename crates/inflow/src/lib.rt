@@ -1,4 +1,6 @@
 // A buffer over a file descriptor: what was read and not used lies from `at` to `end`.
+#![tactic(auto)]
+
 ghost use Rattle.std.specs.Prelude.{◌≡◌, ◌-◌, ◌≤◌, length};
 ghost use Rattle.inflow.specs.Inflow.{moved, Refilled};
 

@@ -1,6 +1,8 @@
 // A table admitted straight from its bytes: each row is read where it is let in, and no table is built in between.
 // `admit_bytes` answers what `tables::admission::admit` answers of the table that the bytes read as, `admitted` and
 // `open_lists` what those of `lists::opening` answer.
+#![tactic(auto)]
+
 ghost use Rattle.std.specs.Prelude.{◌≡◌, ◌*◌, ◌≤◌, length};
 ghost use Rattle.tables.specs.Rows as rows;
 ghost use Rattle.tables.specs.Rows.{base_rows};

@@ -1,5 +1,7 @@
 // The knot vector's core (02, order 4), over values already converted: runs merged from the lowest knot on, and span quotients.
 // Public: `faulty`, `surveyed`, `knot_vector`, `span_quotient`. None asks anything of its caller.
+#![tactic(auto)]
+
 ghost use Rattle.std.specs.Prelude.{◌≡◌, ◌+◌, ◌≤◌, ◌<◌, length};
 ghost use Rattle.std.specs.Float.Ieee.Scale.{finite as is_finite};
 ghost use Rattle.knotruns.specs.Values.{argument_fault, unordered as unorderedIn};

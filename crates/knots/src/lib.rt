@@ -1,6 +1,8 @@
 // The knot vector and span quotients of knots in any units (02, order 4). Knots are lent as bytes and not copied; the table
 // is admitted once, and what is done for a unit is done once for knots that have it.
 // None of `knot_vector`, `span_quotient` asks anything of its caller. Each has a half, `.._over`, for an admitted table.
+#![tactic(auto)]
+
 ghost use Rattle.std.specs.Prelude.{◌≡◌, ◌+◌, ◌*◌, ◌≤◌, ◌<◌, length, set};
 ghost use Rattle.units.specs.declared.Rows.{Rows as Rowsᵛ};
 ghost use Rattle.tables.specs.Held.{Room, Admits};

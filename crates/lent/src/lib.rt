@@ -1,5 +1,7 @@
 // Lent slices of records, copied once into records by value: `rows_of` and `candidates_of` keep the true length, so that
 // one over the most is refused where the call looks at it. `no_row` and `no_candidate` stand past the end.
+#![tactic(auto)]
+
 ghost use Rattle.std.specs.Prelude.{◌≡◌};
 ghost use Rattle.lent.specs.Lent.{no_row, no_candidate, lent_rows_lem, lent_candidates};
 

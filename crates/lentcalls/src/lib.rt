@@ -1,5 +1,7 @@
 // The calls over lent rows: every call takes the table as a run of row records and copies it in once; the work is done by
 // value in the crates below.
+#![tactic(auto)]
+
 ghost use Rattle.std.specs.Prelude.{◌≡◌};
 ghost use Rattle.units.specs.Lists.{made_of};
 ghost use Rattle.units.specs.Prefixes.{prefix_factor_of};

@@ -1,4 +1,6 @@
 // The calls of the table file over lent rows: a table written from them, read into them, salvaged into them.
+#![tactic(auto)]
+
 ghost use Rattle.std.specs.Prelude.{◌≡◌, ◌++◌, length, drop};
 ghost use Rattle.lent.specs.Lent.{lent_rows_lem};
 ghost use Rattle.replies.specs.Held.{Replied};

@@ -1,4 +1,6 @@
 // The calls on knots over lent rows.
+#![tactic(auto)]
+
 ghost use Rattle.std.specs.Prelude.{◌≡◌};
 ghost use Rattle.lent.specs.Lent.{lent_rows_lem};
 ghost use Rattle.knotruns.specs.Held.{quotient_of};

@@ -1,5 +1,7 @@
 // Rows written into a slice that the caller lends. Calls that read into lent rows are proved by this crate's `Into0`, calls
 // that take lent rows and lent room by its `Through`.
+#![tactic(auto)]
+
 ghost use Rattle.std.specs.Prelude.{◌≡◌, length};
 ghost use Rattle.lentwrites.specs.Held.{fits, laid};
 

@@ -1,5 +1,7 @@
 // Powers of quantities (01, "The refusals", "Powers and scales", last sentence of "Canonical form").
 // Public: `checked_power`, and its half `checked_power_over` for a table and lists that are opened already. Neither asks anything of its caller.
+#![tactic(auto)]
+
 ghost use Rattle.std.specs.Prelude.{◌≡◌, ◌≤◌};
 ghost use Rattle.units.specs.declared.Rows.{Rows as Rowsᵛ};
 ghost use Rattle.units.specs.Lists.{list_of};

@@ -1,5 +1,7 @@
 // The registry form of simplification (01, "Simplification"): for two or more factors left, the single base unit, then the candidates given.
 // Public: `full_simplify_with`. It asks nothing of its caller.
+#![tactic(auto)]
+
 ghost use Rattle.std.specs.Prelude.{◌≡◌, false, List, ℕ, ◌≤◌, length};
 ghost use Rattle.exponents.specs.Outcome.{given, refusal_of};
 ghost use Rattle.units.specs.declared.Factor.{Factor as Factorᵛ};

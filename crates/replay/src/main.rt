@@ -1,5 +1,7 @@
 // Compares the records of each file that its arguments name, and prints for each how many it compared, how many differ,
 // and the first that does.
+#![tactic(auto)]
+
 ghost use Rattle.std.specs.Prelude.{◌+◌, ◌≤◌, length};
 
 use inflow::Held;

@@ -1,5 +1,7 @@
 // Answers into lent room, as bytes: too little room is ROOM, after every other refusal; a refusal writes nothing.
 // One function for each sort of answer; `read_multiple` and `read_reduced` read two of them back.
+#![tactic(auto)]
+
 ghost use Rattle.std.specs.Prelude.{Bool, List, ◌++◌, ◌≡◌, Float, length};
 ghost use Prim.Native.Nat.{Ordering, ◌+◌, ◌≤◌};
 ghost use Rattle.exponents.specs.Outcome.{Outcome, given, apply};

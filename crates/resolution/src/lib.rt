@@ -1,5 +1,7 @@
 // Two lists checked against an admitted table, and each factor handed out with what is known of its row (01, "The refusals", "Canonical form").
 // Public: `resolve`. Above it nothing sees the table but for its rows' base exponents, in two lent arrays.
+#![tactic(auto)]
+
 ghost use Rattle.std.specs.Prelude.{◌≡◌, false, List, length, get_or};
 ghost use Prim.Native.Nat.{◌+◌, ◌≤◌, ◌<◌, compare, Ordering};
 ghost use Rattle.std.proofs.lemmas.List.Edits.{sets};

@@ -1,5 +1,7 @@
 // Simplification of quantities (01, "Simplification"): conversion to scalar, to one factor, by groups.
 // Public: `full_simplify`, and its half `full_simplify_over` for a table and a list that are opened already. Neither asks anything of its caller.
+#![tactic(auto)]
+
 ghost use Rattle.std.specs.Prelude.{◌≡◌, []};
 ghost use Rattle.units.specs.declared.Rows.{Rows as Rowsᵛ};
 ghost use Rattle.units.specs.Lists.{pack};

@@ -1,5 +1,7 @@
 // The stream of requests and answers: a request's frame, its arguments, the call that answers it, and many of them.
 // `feed` answers what is whole, `answer` one request; `framed` tells how a request lies.
+#![tactic(auto)]
+
 ghost use Rattle.std.specs.Prelude.{◌≡◌, ◌++◌, ◌+◌, ◌-◌, ◌≤◌, length, take, drop};
 ghost use Rattle.replies.specs.Held.{Replied};
 ghost use Rattle.stream.specs.Calls.{call_of};

@@ -1,5 +1,7 @@
 // Sum and difference of quantities (01, "Conversion, sums, comparison"): zeros before units are looked at; else both in the unit of the smaller scale.
 // Public: `add`, `subtract`, and their halves `.._over` for a table and lists that are opened already. None asks anything of its caller.
+#![tactic(auto)]
+
 ghost use Rattle.std.specs.Prelude.{◌≡◌, List};
 ghost use Rattle.units.specs.declared.Factor.{Factor as Factorᵛ};
 ghost use Rattle.units.specs.declared.Rows.{Rows as Rowsᵛ};

@@ -1,5 +1,7 @@
 // The table file as calls by value (02, order 1): a table's file written, the rows of a file read, and what is whole
 // of a damaged one salvaged.
+#![tactic(auto)]
+
 ghost use Rattle.std.specs.Prelude.{◌≡◌, []};
 ghost use Rattle.lent.specs.Lent.{lent_rows_lem};
 ghost use Rattle.replies.specs.Held.{Replied};

@@ -1,5 +1,7 @@
 // Tables: admission of rows, and lists resolved against an admitted table (01, "Records and sizes", "The refusals").
 // `admission`: `admit`. `no_items`: the empty resolved list.
+#![tactic(auto)]
+
 ghost use Rattle.std.specs.Prelude.{◌≡◌, []};
 ghost use Rattle.tables.specs.Held.{packed};
 

@@ -1,5 +1,7 @@
 // What simplification converts to (01, "Simplification"): one factor to a whole exponent, or the targets of groups of factors.
 // `single`: `first_multiple`. `groups`: `group_at`, `target_of`, `joined`. None asks more of its caller than a place within a list.
+#![tactic(auto)]
+
 ghost use Rattle.std.specs.Prelude.{◌≡◌};
 ghost use Rattle.tables.specs.Order.{atom, of};
 ghost use Rattle.canonical.specs.Held.{with_factor};

@@ -1,5 +1,7 @@
 // The records of units and quantities (01, "Records and sizes"), and what needs no table: prefixes and lists of factors.
 // `prefixes`: `prefix_factor`. `lists`: `list_fault`, `product`, `quotient`, `list_power`.
+#![tactic(auto)]
+
 use exponents::Exponent;
 
 pub mod prefixes; // their rule and their factor

@@ -1,4 +1,6 @@
 // Tables in the byte form of 02's order 1: any bytes as a table or as a number, and rows written one after the other.
+#![tactic(auto)]
+
 ghost use Rattle.std.specs.Prelude.{◌≡◌, ◌+◌, ◌*◌, ◌≤◌, length, take};
 ghost use Rattle.std.proofs.lemmas.List.Edits.{sets};
 ghost use Rattle.wire.specs.Arguments.{table_from};
