@@ -1,0 +1,8 @@
+-- `factor_fault` meets its contract.
+use borrow.Author.Rules.{rules}
+use Rattle.units.specs.Lists.{factor_fault}
+use Rattle.units.proofs.lists.factor_fault.Goals as goal
+
+pub returns : goal.returns
+unfolding factor_fault
+returns c = cc
