@@ -1,0 +1,15 @@
+-- `divisor` meets its contract. The invariant: what is left is the divisor of g and the numbers from i on.
+use mathlib.Core.Path.{◌≡◌, refl, sym, ◌∙◌, ap}
+use Prim.Native.Nat.{◌+◌, ◌≤◌, ◌-◌}
+use native.Mathlib.Omega.{arith}
+use borrow.Author.Rules.{rules}
+use lib.ListN.{length, drop, drop_of_length-le}
+use Rattle.keys.specs.Key as spec
+use Rattle.keys.proofs.KeyLaws.{divisor_on}
+use Rattle.keys.proofs.making.divisor.Given as goal
+
+abbrev pub invariant-loop-i : goal.invariant-loop-i
+invariant-loop-i l = (l.i ≤ 16) × (spec.divisor 0 (spec.wholes l.m l.d) ≡ spec.divisor l.g (spec.wholes l.m (drop l.i l.d)))
+
+abbrev pub decreases-loop-i : goal.decreases-loop-i
+decreases-loop-i l = 16 - l.i

@@ -1,0 +1,21 @@
+-- `compare_keys` meets its contract. The invariant: the places before i are the same, so that those from i on decide.
+use mathlib.Core.Path.{◌≡◌, refl, sym, ◌∙◌, ap, ap₂}
+use Prim.Native.Nat.{◌≤◌, ◌-◌}
+use native.Mathlib.Omega.{arith}
+use borrow.Author.Rules.{rules}
+use lib.IntN.{pos}
+use lib.ListN.{drop_of_length-le}
+use mir.Syntax.{w64}
+use mir.Val.{of_z}
+use Rattle.keys.specs.Key.{entries}
+use Rattle.keys.specs.Orders.{lists, pairs}
+use Rattle.keys.specs.Held.{sense_of, key_at}
+use Rattle.keys.proofs.KeyOrder.{bits-same, from, same_on}
+use Rattle.exponents.proofs.Places.{part_long, part_at}
+use Rattle.keys.proofs.order.compare_keys.Given as goal
+
+abbrev pub invariant-loop-i : goal.invariant-loop-i
+invariant-loop-i l = (l.i ≤ 16) × (lists pairs (entries 0 (key_at l.a l.keys)) (entries 0 (key_at l.b l.keys)) ≡ lists pairs (from l.i (key_at l.a l.keys)) (from l.i (key_at l.b l.keys)))
+
+abbrev pub decreases-loop-i : goal.decreases-loop-i
+decreases-loop-i l = 16 - l.i
