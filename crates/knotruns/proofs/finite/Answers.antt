@@ -1,12 +1,9 @@
 -- `knotruns::finite` meets its contract: what lies between the infinities is finite.
 use lib.Ieee.{of_bits, div, neg}
 use Rattle.knotruns.proofs.Floats.{finite_test}
-use Rattle.knotruns.proofs.finite.Statement.{statement}
-use Rattle.knotruns.proofs.finite.Tie as tie
+use Rattle.knotruns.proofs.finite.Goals as goal
 
-returns : tie.Need-returns
+-- `knotruns::finite` meets its contract: what lies between the infinities is finite.
+pub returns : goal.returns
 unfolding of_bits div neg
 returns c = finite_test c.args.x
-
-pub finite-spec : {M : Type 1} → statement M
-finite-spec = tie.close (tie.spec returns)
