@@ -1,6 +1,8 @@
 -- Laws of `over`, xs laid over ys, as a loop that copies element by element meets them.
 use mathlib.Core.Path.{◌≡◌, refl, ap}
-use Prim.Native.Nat.{ℕ, zero, suc, ◌<◌, ◌≤◌}
+use Prim.Native.Nat.{ℕ, zero, suc, ◌+◌, ◌<◌, ◌≤◌}
+use Rattle.std.proofs.Common.{arith, ◌∙◌, nat_lt, ◌&&◌, false, inl, inr}
+use Rattle.std.proofs.lemmas.Bool.{and_cases, ltb-false}
 use native.Mathlib.Nat.{not-suc-le-zero, le_of_suc-le-suc}
 use mathlib.Core.List.{List, [], ◌∷◌}
 use lib.ListN.{length, get_or, take, set}
@@ -50,3 +52,13 @@ module _ {X : Type 0} where
   over_back [] ys l = refl
   over_back (x ∷ xs) [] l = absurd (not-suc-le-zero l)
   over_back (x ∷ xs) (y ∷ ys) l = ap {B = List X} (λ zs. x ∷ zs) (over_back xs ys (le_of_suc-le-suc l))
+
+  -- the same, as a loop that stops at both ends has them
+  pub over_more : (xs ys zs : List X) (i : ℕ) (d : X) → i < length xs → zs ≡ over (take i xs) ys → set zs i (get_or xs i d) ≡ over (take (i + 1) xs) ys
+  over_more xs ys zs i d l p =
+      let e : suc i ≡ i + 1 = omega arith in
+      ap (λ (ws : List X). set ws i (get_or xs i d)) p ∙ over-next xs ys i d l ∙ ap (λ (k : ℕ). over (take k xs) ys) e
+
+  pub over_end : (xs ys zs : List X) (i n : ℕ) → length ys ≡ n → (nat_lt i (length xs) && nat_lt i n) ≡ false → zs ≡ over (take i xs) ys → zs ≡ over xs ys
+  over_end xs ys zs i n e h p =
+      elim (and_cases (nat_lt i (length xs)) (nat_lt i n) h) [ inl l ↦ p ∙ over_spent xs ys i (ltb-false i (length xs) l) | inr l ↦ p ∙ over_full xs ys i (omega (arith, e, ltb-false i n l)) ]
