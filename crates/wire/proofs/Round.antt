@@ -57,7 +57,7 @@ number_form w = record { sized = λ x _. length-bytes_of w x; skips = le_skips w
 -- two's complement
 pub signed_form : Form (λ z. mag z < 2147483648) signed_at (λ z. bytes_of 4 (of_z w32 z)) 4
 unfolding signed_at
-signed_form = told (number_form 4) (to_z w32) (of_z w32) (λ s i. refl) (λ z. refl) (λ z h. (Fits-of_z {w = w32} {z = z} (record { sfits = h })).fits) (λ z h. to_z-of_z (record { sfits = h }))
+signed_form = told (number_form 4) (to_z w32) (of_z w32) (λ s i. refl) (λ z. refl) (λ z h. (Fits-of_z {w = w32} {z = z} (record { sfits = h })).fits) (λ z h. to_z-of_z {w = w32} {z = z} (record { sfits = h }))
 
 -- a value by its bits
 pub value_form : Form (λ x. T (fits binary64 x)) (λ s i. of_bits binary64 (le 8 s i)) (λ x. bytes_of 8 (to_bits binary64 x)) 8
