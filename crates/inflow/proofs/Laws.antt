@@ -1,15 +1,12 @@
--- A buffer filled again: its bytes move to its front one by one, each read before it is written over; and whether any came behind them.
-use mathlib.Core.Path.{◌≡◌, sym, ap, ◌∙◌}
-use mathlib.Core.Bool.{not}
+-- A buffer filled again: its bytes move to its front one by one, each read before it is written over.
+use mathlib.Core.Path.{◌≡◌, ap, ◌∙◌}
 use mathlib.Core.List.{List}
-use Prim.Native.Nat.{ℕ, zero, suc, ◌+◌, ◌≤◌, ◌<◌}
+use Prim.Native.Nat.{ℕ, ◌+◌, ◌<◌}
 use native.Mathlib.Nat.{zero-add, add_comm}
 use native.Mathlib.Numerals.{add-one}
 use native.Mathlib.Omega.{arith}
-use lib.Dec.{eqb, ltb}
-use borrow.Author.Tests.{lt-ltb, le-ltb, ne_eqb}
 use lib.ListN.{length, take, drop, get_or, set, length-drop}
-use lib.Seq.{length-take-le, take_at, get_or-append-add, get_or-drop, paste-suc}
+use lib.Seq.{length-take-le, get_or-append-add, get_or-drop, paste-suc}
 use Rattle.inflow.specs.Inflow.{moved}
 
 module _ (s : List ℕ) (at i : ℕ) (h : at + i < length s) where
@@ -23,10 +20,3 @@ module _ (s : List ℕ) (at i : ℕ) (h : at + i < length s) where
   pub moved_on : (t : List ℕ) (j : ℕ) → t ≡ moved at i s → j ≡ at + i → set t i (get_or t j 0) ≡ moved at (i + 1) s
   moved_on t j p q =
       rw (p, q, next_read) (simp (zero-add, ← add-one) at (paste-suc s 0 (drop at s) i 0 (omega arith) (omega (arith, length-drop at s))))
-
-pub moved_front : (s : List ℕ) (at n : ℕ) → at + n ≤ length s → take n (moved at n s) ≡ take n (drop at s)
-moved_front s at n h = take_at (take n (drop at s)) (drop n s) n (length-take-le n (drop at s) (omega (arith, length-drop at s)))
-
-pub some_read : (h n : ℕ) → not (eqb n 0) ≡ ltb h (h + n)
-some_read h zero = sym (le-ltb h (h + 0) (omega arith))
-some_read h (suc n) = rw (ne_eqb (suc n) 0 (λ e. omega arith), lt-ltb h (h + suc n) (omega arith))

@@ -6,8 +6,11 @@ use Rattle.inflow.specs.declared.Held.{Held}
 abbrev pub moved : ℕ → ℕ → List ℕ → List ℕ
 moved at n s = take n (drop at s) ++ drop n s
 
--- what is told of the buffer s, used up to place at and filled up to place end, and what it is, t, once more is read:
--- of the bytes that were read only the number is known
+-- the bytes of the buffer t, filled again, that were read
+abbrev pub fresh : ℕ → ℕ → Held → List ℕ → List ℕ
+fresh at end r t = take (r.end - (end - at)) (drop (end - at) t)
+
+-- what is told of the buffer s, used up to place at and filled up to place end, and what it is, t, once more is read
 pub record Refilled (s : List ℕ) (at end : ℕ) (r : Held) (t : List ℕ) : Type 0 where
   pub front : r.at ≡ 0
   pub kept : take (end - at) t ≡ take (end - at) (drop at s)

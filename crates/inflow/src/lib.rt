@@ -1,8 +1,11 @@
-// A buffer over a file descriptor: what was read and not used lies from `at` to `end`.
+// A buffer over a reader: what was read and not used lies from `at` to `end`.
 #![tactic(auto)]
 
 ghost use Rattle.std.specs.Prelude.{◌≡◌, ◌-◌, ◌≤◌, length};
-ghost use Rattle.inflow.specs.Inflow.{moved, Refilled};
+ghost use Rattle.std.specs.Io.KnownBytes.{Consumes};
+ghost use Rattle.inflow.specs.Inflow.{moved, fresh, Refilled};
+
+use std::io::Read;
 
 #[derive(Clone, Copy, Drop)]
 pub struct Held {
@@ -34,15 +37,16 @@ fn shift(s: &mut [u8], at: usize, end: usize)
     }
 }
 
-// Moves the `end - at` bytes that are left to the front, and reads more behind them, once.
-pub fn refill(fd: i32, inp: &mut [u8], at: usize, end: usize) -> Held
+// Moves the `end - at` bytes that are left to the front, and reads more behind them, once, as the source gives them. A
+// read that fails counts as one that finds nothing.
+pub fn refill<R: Read>(source: &mut R, inp: &mut [u8], at: usize, end: usize) -> Held
     requires { (at ≤ end) × (end ≤ length inp.old) }
-    ensures { Refilled inp.old at end result inp.new }
+    ensures refilled { Refilled inp.old at end result inp.new }
+    ensures bytes { Consumes (R.remaining source.old) (R.remaining source.new) (fresh at end result inp.new) }
 {
     shift(inp, at, end);
     let have = end - at;
-    let got = libc::read(fd, &mut inp[have..]);
-    let n = io::count(got, &inp[have..]);
+    let n = source.read(&mut inp[have..]).unwrap_or(0);
     Held {
         at: 0,
         end: have + n,
