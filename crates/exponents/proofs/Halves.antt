@@ -7,7 +7,7 @@ use native.Mathlib.Omega.{arith}
 use lib.IntN.{nat_abs}
 use lib.Dec.{ltb}
 use borrow.Author.Tests.{ltb-true, ltb-false, lt-ltb, le-ltb}
-use Rattle.exponents.specs.Outcome.{Refusal, RANGE, DENOMINATOR, Outcome, given, refused, unless}
+use Rattle.exponents.specs.Outcome.{Refusal, RANGE, DENOMINATOR, given, refused, unless}
 use Rattle.exponents.specs.Gcd.{lcm}
 use Rattle.exponents.specs.Fractions.{most, numerator_beyond, denominator_beyond, ranged, lcm?}
 use Rattle.exponents.specs.declared.Exponent.{Exponent}

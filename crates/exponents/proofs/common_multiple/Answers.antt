@@ -1,5 +1,4 @@
 -- `common_multiple` meets its contract; where neither number is above 0 the multiple is 0, which is not in range.
-use borrow.Author.Rules.{rules}
 use native.Mathlib.Omega.{arith}
 use native.Mathlib.Nat.{pos_of_ne-zero}
 use Rattle.exponents.proofs.Multiples.{no_multiple, part-fits, multiple_off, multiple_small, multiple_on}

@@ -1,7 +1,6 @@
 -- `faulty` meets its contract.
 use mathlib.Core.Path.{sym, ◌∙◌, ap}
 use lib.Dec.{ltb}
-use borrow.Author.Rules.{rules}
 use Rattle.exponents.specs.Fractions.{faulty, beyond, most}
 use Rattle.exponents.proofs.Ranged.{whole-faulty}
 use Rattle.exponents.proofs.faulty.Goals as goal

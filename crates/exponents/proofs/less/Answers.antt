@@ -6,7 +6,6 @@ use Rattle.exponents.proofs.Size.{cross}
 use Rattle.exponents.proofs.WithSign.{sign_scale}
 use Rattle.exponents.specs.Fractions.{less}
 use Rattle.exponents.specs.Held.{with_sign}
-use borrow.Author.Rules.{rules}
 use Rattle.exponents.proofs.less.Goals as goal
 
 pub overflow_mul-p : goal.overflow_mul-p

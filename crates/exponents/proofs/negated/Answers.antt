@@ -6,7 +6,6 @@ use Rattle.exponents.specs.Held.{fraction_of, with_sign}
 use Rattle.exponents.specs.Fractions.{ranged, lowest}
 use Rattle.exponents.proofs.WithSign.{not_sign_abs}
 use Prim.Native.Nat.{ℕ}
-use borrow.Author.Rules.{rules}
 use Rattle.exponents.proofs.negated.Goals as goal
 
 pub returns : goal.returns

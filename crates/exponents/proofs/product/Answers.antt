@@ -7,7 +7,6 @@ use Rattle.exponents.proofs.Size.{product-fits}
 use Rattle.exponents.proofs.WithSign.{sign_abs, mul_signs}
 use Rattle.exponents.specs.Fractions.{mul, lowest, ranged}
 use Rattle.exponents.specs.Held.{fraction_of, with_sign, xor}
-use borrow.Author.Rules.{rules}
 use Rattle.exponents.proofs.product.Goals as goal
 
 pub overflow_mul-m : goal.overflow_mul-m

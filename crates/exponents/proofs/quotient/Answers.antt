@@ -8,7 +8,6 @@ use Rattle.exponents.proofs.WithSign.{sign_abs, mul_signs}
 use Rattle.exponents.proofs.Ranged.{inverse_num, inverse_den}
 use Rattle.exponents.specs.Fractions.{mul, div, lowest, ranged}
 use Rattle.exponents.specs.Held.{fraction_of, with_sign, xor}
-use borrow.Author.Rules.{rules}
 use Rattle.exponents.proofs.quotient.Goals as goal
 
 pub overflow_mul-m : goal.overflow_mul-m

@@ -3,7 +3,6 @@ use mathlib.Core.Path.{◌∙◌, ap}
 use Prim.Native.Nat.{◌<◌, ◌/◌}
 use native.Mathlib.Nat.{pos_of_ne-zero}
 use native.Mathlib.Omega.{arith}
-use borrow.Author.Rules.{rules}
 use Rattle.exponents.proofs.Ranged.{low, whole, div-pos, den_pos, over_num, over_den, over-nought, within}
 use Rattle.exponents.specs.declared.Fraction.TheVariants.{Exact}
 use mir.Facts.{to_z-of_z}

@@ -6,7 +6,6 @@ use Rattle.exponents.proofs.Size.{cross, product-fits}
 use Rattle.exponents.proofs.WithSign.{sign_scale}
 use Rattle.exponents.specs.Fractions.{add, lowest, ranged}
 use Rattle.exponents.specs.Held.{fraction_of, with_sign}
-use borrow.Author.Rules.{rules}
 use Rattle.exponents.proofs.sum.Goals as goal
 
 pub overflow_mul-p : goal.overflow_mul-p

@@ -1,7 +1,6 @@
 -- `floats::bits_of` meets its contract: a NaN does not reach `to_bits`.
 use mathlib.Core.Path.{sym, ◌∙◌, ap}
 use lib.Ieee.{binary64, to_bits}
-use borrow.Author.Rules.{rules}
 use Rattle.floats.proofs.Facts.{ne_self, only_nan}
 use Rattle.floats.proofs.bits_of.Goals as goal
 

@@ -5,7 +5,6 @@ use native.Mathlib.Omega.{arith}
 use mir.Syntax.{w32}
 use mir.Val.{SFits}
 use mir.Facts.{to_z-of_z}
-use borrow.Author.Rules.{rules}
 use Rattle.floats.specs.declared.Tally.{Tally}
 use Rattle.floats.proofs.Counting.{counted_answer}
 use Rattle.floats.proofs.counted_power.Goals as goal

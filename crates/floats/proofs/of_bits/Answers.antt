@@ -3,7 +3,6 @@ use mathlib.Core.Path.{sym, ◌∙◌}
 use lib.Ieee.{binary64, div, of_bits}
 use lib.Ieee.Bits.{nan_bits_above}
 use borrow.Author.Tests.{le-ltb}
-use borrow.Author.Rules.{rules}
 use Rattle.floats.proofs.Facts.{nan_of}
 use Rattle.floats.proofs.of_bits.Goals as goal
 

@@ -3,7 +3,6 @@ use mathlib.Core.Path.{ap}
 use mir.Syntax.{w32}
 use mir.Val.{SFits}
 use mir.Facts.{to_z-of_z}
-use borrow.Author.Rules.{rules}
 use Rattle.floats.specs.declared.Tally.{Tally}
 use Rattle.floats.proofs.power.Goals as goal
 

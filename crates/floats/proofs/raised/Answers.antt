@@ -5,7 +5,7 @@ use Prim.Native.Nat.{◌+◌, ◌%◌}
 use native.Mathlib.Omega.{arith}
 use lib.Dec.{eqb}
 use lib.Ieee.{of_bits}
-use Rattle.floats.specs.Power.{one, bits, taken, raise, multiplications, tally}
+use Rattle.floats.specs.Power.{taken, tally}
 use Rattle.floats.proofs.Laws.{turn, turn_end, taken-set, taken_clear}
 use Rattle.floats.proofs.Counting.{few, count_none, turn_more, turn_last, counted-set, counted_clear, bit-most}
 use Rattle.floats.proofs.raised.Goals as goal

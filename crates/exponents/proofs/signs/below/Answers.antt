@@ -4,7 +4,6 @@ use native.Mathlib.Omega.{arith}
 use lib.IntN.{pos}
 use lib.Signed.{mag, lt_z}
 use Rattle.exponents.proofs.Size.{back}
-use borrow.Author.Rules.{rules}
 use Rattle.exponents.proofs.signs.below.Goals as goal
 
 pub returns : goal.returns

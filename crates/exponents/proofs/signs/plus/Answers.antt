@@ -2,7 +2,6 @@ use mathlib.Core.Path.{sym, ◌∙◌, ap₂}
 use lib.IntN.{pos, neg_ℤ, ◌+ℤ◌, +ℤ_comm}
 use Rattle.exponents.proofs.WithSign.{sum_pp, sum_nn, minus_ge, minus_lt}
 use Rattle.exponents.specs.Held.{with_sign}
-use borrow.Author.Rules.{rules}
 use Rattle.exponents.proofs.signs.plus.Goals as goal
 
 pub returns-then-t : goal.returns-then-t

@@ -5,7 +5,6 @@ use lib.IntN.{pos}
 use mir.Syntax.{w32, w64}
 use mir.Val.{SFits}
 use mir.Facts.{to_z-of_z, to_z_pos}
-use borrow.Author.Rules.{rules}
 use Rattle.exponents.proofs.Size.{neg-fits, zero_minus, minus_narrow, minus_read}
 use Rattle.exponents.specs.Held.{with_sign}
 use Rattle.exponents.proofs.signs.signed.Goals as goal

@@ -1,8 +1,7 @@
 -- `divisor` meets its contract. The invariant: what is left is the divisor of g and the numbers from i on.
 use mathlib.Core.Path.{◌≡◌, refl, sym, ◌∙◌, ap}
-use Prim.Native.Nat.{◌+◌, ◌≤◌, ◌-◌}
+use Prim.Native.Nat.{◌+◌}
 use native.Mathlib.Omega.{arith}
-use borrow.Author.Rules.{rules}
 use lib.ListN.{length, drop, drop_of_length-le}
 use Rattle.keys.specs.Key as spec
 use Rattle.keys.proofs.KeyLaws.{divisor_on}

@@ -1,6 +1,5 @@
 -- `joined` meets its contract.
 use mathlib.Core.Path.{sym, ◌∙◌, ap}
-use borrow.Author.Rules.{rules}
 use Rattle.exponents.specs.Fractions.{lcm?}
 use Rattle.exponents.specs.Held.{multiple_of}
 use Rattle.keys.proofs.KeyLaws.{lcm-one}

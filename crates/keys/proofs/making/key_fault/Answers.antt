@@ -1,6 +1,5 @@
 -- `key_fault` meets its contract.
 use mathlib.Core.Path.{sym, ◌∙◌}
-use borrow.Author.Rules.{rules}
 use Rattle.keys.proofs.KeyLaws.{fault_none, fault_some}
 use Rattle.keys.proofs.making.key_fault.Goals as goal
 

@@ -1,6 +1,5 @@
 -- `key_of` meets its contract.
 use mathlib.Core.Path.{sym, ◌∙◌}
-use borrow.Author.Rules.{rules}
 use Rattle.keys.proofs.KeyLaws.{key_given, key_refused}
 use Rattle.keys.proofs.making.key_of.Goals as goal
 

@@ -1,13 +1,9 @@
 -- `multiple` meets its contract. The invariant: what is left is the common multiple of m and the denominators from i on.
-use mathlib.Core.Path.{◌≡◌, refl, sym, ◌∙◌, ap}
+use mathlib.Core.Path.{◌≡◌}
 use Prim.Native.Nat.{◌≤◌, ◌-◌}
-use native.Mathlib.Omega.{arith}
-use borrow.Author.Rules.{rules}
-use lib.ListN.{length, drop, drop_of_length-le}
-use Rattle.exponents.specs.Held.{multiple_of}
-use Rattle.exponents.proofs.Holds.{take_out}
+use lib.ListN.{drop}
 use Rattle.keys.specs.Key as spec
-use Rattle.keys.proofs.KeyLaws.{Denominator, common_given, common_refuses, lcm_range, multiple_on, multiple_off}
+use Rattle.keys.proofs.KeyLaws.{Denominator}
 use Rattle.keys.proofs.making.multiple.Given as goal
 
 abbrev pub invariant-loop-i : goal.invariant-loop-i

@@ -4,7 +4,6 @@ use Prim.Native.Nat.{◌/◌}
 use native.Mathlib.Nat.{div-le_self, div-zero, zero-div}
 use native.Mathlib.Omega.{arith}
 use mir.Syntax.{w64}
-use borrow.Author.Rules.{rules}
 use mir.Facts.{to_z-of_z}
 use Rattle.exponents.specs.Held.{with_sign, xor}
 use Rattle.keys.proofs.KeyLaws.{part_is, part-zero}

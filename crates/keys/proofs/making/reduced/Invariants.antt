@@ -1,12 +1,6 @@
 -- `reduced` meets its contract. The invariant: the places before i hold their parts.
-use mathlib.Core.Path.{◌≡◌, refl, sym, ◌∙◌}
 use Prim.Native.Nat.{◌-◌}
-use native.Mathlib.Omega.{arith}
-use borrow.Author.Rules.{rules}
-use lib.ListN.{length}
-use mir.Facts.{to_z-of_z}
-use Rattle.exponents.proofs.Places.{Mapped, mapped_on, mapped_end}
-use Rattle.keys.proofs.KeyLaws.{reduced_is}
+use Rattle.exponents.proofs.Places.{Mapped}
 use Rattle.keys.specs.Held.{part}
 use Rattle.keys.proofs.making.reduced.Given as goal
 

@@ -1,8 +1,7 @@
 -- `size` meets its contract.
-use Prim.Native.Nat.{◌*◌, ◌/◌, ◌≤◌}
+use Prim.Native.Nat.{◌/◌}
 use native.Mathlib.Nat.{div-le_self}
 use native.Mathlib.Omega.{arith}
-use borrow.Author.Rules.{rules}
 use Rattle.exponents.proofs.Size.{cross}
 use Rattle.keys.proofs.KeyLaws.{size_is, no_top, no_bottom}
 use Rattle.keys.proofs.making.size.Goals as goal

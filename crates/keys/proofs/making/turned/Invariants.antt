@@ -1,11 +1,8 @@
 -- `turned` meets its contract. The invariant: the numbers before i are zero, so that those from i on decide.
-use mathlib.Core.Path.{◌≡◌, refl, sym, ◌∙◌, ap}
+use mathlib.Core.Path.{◌≡◌}
 use Prim.Native.Nat.{◌≤◌, ◌-◌}
-use native.Mathlib.Omega.{arith}
-use borrow.Author.Rules.{rules}
-use lib.ListN.{length, drop, drop_of_length-le}
+use lib.ListN.{drop}
 use Rattle.keys.specs.Key as spec
-use Rattle.keys.proofs.KeyLaws.{below_on, below_here}
 use Rattle.keys.proofs.making.turned.Given as goal
 
 abbrev pub invariant-loop-i : goal.invariant-loop-i

@@ -1,8 +1,6 @@
 -- `compare_keys` meets its contract. The invariant: the places before i are the same, so that those from i on decide.
-use mathlib.Core.Path.{◌≡◌, refl, sym, ◌∙◌, ap, ap₂}
-use Prim.Native.Nat.{◌≤◌, ◌-◌}
+use mathlib.Core.Path.{refl, sym, ◌∙◌, ap, ap₂}
 use native.Mathlib.Omega.{arith}
-use borrow.Author.Rules.{rules}
 use lib.IntN.{pos}
 use lib.ListN.{drop_of_length-le}
 use mir.Syntax.{w64}
@@ -10,7 +8,7 @@ use mir.Val.{of_z}
 use Rattle.keys.specs.Key.{entries}
 use Rattle.keys.specs.Orders.{lists, pairs}
 use Rattle.keys.specs.Held.{sense_of, key_at}
-use Rattle.keys.proofs.KeyOrder.{bits-same, from, same_on}
+use Rattle.keys.proofs.KeyOrder.{bits-same, same_on}
 use Rattle.exponents.proofs.Places.{part_long, part_at}
 use Rattle.keys.proofs.order.compare_keys.Goals as goal
 

@@ -1,17 +1,10 @@
 -- `compare_keys` meets its contract. The invariant: the places before i are the same, so that those from i on decide.
-use mathlib.Core.Path.{◌≡◌, refl, sym, ◌∙◌, ap, ap₂}
+use mathlib.Core.Path.{◌≡◌}
 use Prim.Native.Nat.{◌≤◌, ◌-◌}
-use native.Mathlib.Omega.{arith}
-use borrow.Author.Rules.{rules}
-use lib.IntN.{pos}
-use lib.ListN.{drop_of_length-le}
-use mir.Syntax.{w64}
-use mir.Val.{of_z}
 use Rattle.keys.specs.Key.{entries}
 use Rattle.keys.specs.Orders.{lists, pairs}
-use Rattle.keys.specs.Held.{sense_of, key_at}
-use Rattle.keys.proofs.KeyOrder.{bits-same, from, same_on}
-use Rattle.exponents.proofs.Places.{part_long, part_at}
+use Rattle.keys.specs.Held.{key_at}
+use Rattle.keys.proofs.KeyOrder.{from}
 use Rattle.keys.proofs.order.compare_keys.Given as goal
 
 abbrev pub invariant-loop-i : goal.invariant-loop-i

@@ -1,10 +1,8 @@
 -- `has_more` meets its contract. The invariant: zeros stand from p up to i.
-use mathlib.Core.Path.{◌≡◌, refl, sym, ◌∙◌, ap}
-use Prim.Native.Nat.{◌≤◌, ◌-◌}
+use mathlib.Core.Path.{refl, sym, ◌∙◌, ap}
 use native.Mathlib.Omega.{arith}
-use borrow.Author.Rules.{rules}
 use lib.IntN.{pos}
-use lib.ListN.{drop, drop_of_length-le}
+use lib.ListN.{drop_of_length-le}
 use mir.Syntax.{w64}
 use mir.Val.{of_z}
 use Rattle.keys.specs.Held.{more, key_at}

@@ -1,13 +1,8 @@
-use borrow.Author.Rules.{rules}
-use mathlib.Core.Path.{◌≡◌, refl, sym, ap, ◌∙◌}
-use mathlib.Core.List.{List, [], ◌∷◌, ◌++◌, append-nil, append_assoc}
-use Prim.Native.Nat.{ℕ, ◌≤◌, ◌<◌, ◌-◌, ◌+◌}
+use mathlib.Core.Path.{◌≡◌, ap, ◌∙◌}
+use mathlib.Core.List.{append-nil}
 use native.Mathlib.Omega.{arith}
-use lib.ListN.{length, take}
-use Rattle.units.specs.declared.Factor.{Factor}
-use Rattle.units.specs.Lists.{pack}
 use Rattle.units.specs.declared.Factors.{Factors}
-use Rattle.units.proofs.Laws.{full, append-turn, len_pack}
+use Rattle.units.proofs.Laws.{append-turn, len_pack}
 use Rattle.units.proofs.lists.append.Goals as goal
 
 -- src/lib.rt:112:5

@@ -1,13 +1,9 @@
-use borrow.Author.Rules.{rules}
-use mathlib.Core.Path.{◌≡◌, refl, sym, ap, ◌∙◌}
-use mathlib.Core.List.{List, [], ◌∷◌, ◌++◌, append-nil, append_assoc}
-use Prim.Native.Nat.{ℕ, ◌≤◌, ◌<◌, ◌-◌, ◌+◌}
-use native.Mathlib.Omega.{arith}
-use lib.ListN.{length, take}
+use mathlib.Core.Path.{◌≡◌}
+use mathlib.Core.List.{List, ◌++◌}
+use Prim.Native.Nat.{◌≤◌, ◌-◌}
+use lib.ListN.{take}
 use Rattle.units.specs.declared.Factor.{Factor}
 use Rattle.units.specs.Lists.{pack}
-use Rattle.units.specs.declared.Factors.{Factors}
-use Rattle.units.proofs.Laws.{full, append-turn, len_pack}
 use Rattle.units.proofs.lists.append.Given as goal
 
 abbrev pub invariant-loop-j : goal.invariant-loop-j

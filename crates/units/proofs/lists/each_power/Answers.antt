@@ -1,12 +1,9 @@
 -- `each_power` meets its contract. The invariant: the factors before i are raised and stand in o.
-use borrow.Author.Rules.{rules}
-use mathlib.Core.Path.{◌≡◌, sym, ◌∙◌}
-use Prim.Native.Nat.{◌≤◌, ◌-◌}
+use mathlib.Core.Path.{sym, ◌∙◌}
 use native.Mathlib.Omega.{arith}
-use lib.ListN.{length}
-use Rattle.units.specs.Lists.{list_of, raised}
-use Rattle.units.proofs.Laws.{full, listed}
-use Rattle.units.proofs.Powers.{Upto, upto_none, upto_room, upto_on, upto_off, upto_end, power_given, power_refuses}
+use Rattle.units.specs.Lists.{raised}
+use Rattle.units.proofs.Laws.{listed}
+use Rattle.units.proofs.Powers.{upto_none, upto_room, upto_on, upto_off, upto_end, power_given, power_refuses}
 use Rattle.units.proofs.lists.each_power.Goals as goal
 
 pub loop-i-init : goal.loop-i-init

@@ -1,5 +1,4 @@
 -- `factor_fault` meets its contract.
-use borrow.Author.Rules.{rules}
 use Rattle.units.specs.Lists.{factor_fault}
 use Rattle.units.proofs.lists.factor_fault.Goals as goal
 

@@ -1,13 +1,11 @@
 -- `inverse` meets its contract. The invariant: the factors before i are inverted and stand in o.
-use mathlib.Core.Path.{◌≡◌, refl, sym, ap, ◌∙◌}
-use mathlib.Core.List.{List, [], ◌∷◌, ◌++◌, map}
-use Prim.Native.Nat.{ℕ, ◌≤◌, ◌<◌, ◌-◌, ◌+◌}
+use mathlib.Core.Path.{ap, ◌∙◌}
+use mathlib.Core.List.{List, map}
 use native.Mathlib.Omega.{arith}
-use lib.ListN.{length, take}
 use lib.Seq.{take_all}
 use Rattle.units.specs.declared.Factor.{Factor}
 use Rattle.units.specs.Lists.{pack, list_of, factor_fault, inverted}
-use Rattle.units.proofs.Laws.{full, listed, none_in, pushable, push_turn}
+use Rattle.units.proofs.Laws.{listed, none_in, pushable, push_turn}
 use Rattle.units.proofs.lists.inverse.Goals as goal
 
 -- src/lib.rt:49:5

@@ -1,5 +1,4 @@
 -- `inverted` meets its contract: the negative of an exponent that keeps its rule is in range, so the other arm is never taken.
-use borrow.Author.Rules.{rules}
 use mathlib.Core.Path.{sym, ◌∙◌}
 use Rattle.units.proofs.Sound.{inverted_by, never_refused}
 use Rattle.units.proofs.lists.inverted.Goals as goal

@@ -1,12 +1,11 @@
 -- `joined` meets its contract.
-use borrow.Author.Rules.{rules}
-use mathlib.Core.Path.{◌≡◌, sym, ap, ◌∙◌}
+use mathlib.Core.Path.{ap, ◌∙◌}
 use mathlib.Core.List.{[]}
 use Prim.Native.Nat.{ℕ}
 use native.Mathlib.Omega.{arith}
 use Rattle.units.specs.declared.Factors.{Factors}
 use Rattle.units.specs.Lists.{list_of}
-use Rattle.units.proofs.Laws.{full, listed, len_pack}
+use Rattle.units.proofs.Laws.{listed, len_pack}
 use Rattle.units.proofs.Checked.{no_room, room}
 use Rattle.units.proofs.lists.joined.Goals as goal
 

@@ -1,12 +1,9 @@
 -- `list_fault` meets its contract. The invariant: no fault and no unknown row stands before i that `lost` doesn't tell.
-use borrow.Author.Rules.{rules}
-use mathlib.Core.Path.{◌≡◌, refl, sym, ap, ◌∙◌}
-use mathlib.Core.Bool.{true, false, ◌||◌}
-use Prim.Native.Nat.{◌-◌, ◌≤◌}
+use mathlib.Core.Path.{refl, sym, ◌∙◌}
+use mathlib.Core.Bool.{true, false}
 use native.Mathlib.Omega.{arith}
-use lib.ListN.{length, drop}
-use Rattle.units.specs.Lists.{list_of, some, factor_fault, unknown, no_factor}
-use Rattle.units.proofs.Laws.{full, listed, fault_found, fault_not, fault_none, told_on, told_end}
+use Rattle.units.specs.Lists.{factor_fault, unknown, no_factor}
+use Rattle.units.proofs.Laws.{listed, fault_found, fault_not, fault_none, told_on, told_end}
 use Rattle.units.proofs.Checked.{too_long, bad_shape, shaped}
 use Rattle.units.proofs.lists.list_fault.Goals as goal
 

@@ -1,5 +1,4 @@
 -- `list_power` meets its contract.
-use borrow.Author.Rules.{rules}
 use mathlib.Core.Path.{sym, ◌∙◌}
 use Rattle.exponents.specs.Outcome.{SHAPE}
 use Rattle.units.specs.Lists.{list_power}

@@ -1,5 +1,4 @@
 -- `pair_fault` meets its contract.
-use borrow.Author.Rules.{rules}
 use mathlib.Core.Path.{sym, ◌∙◌}
 use Rattle.units.proofs.Checked.{first_fault, second_fault}
 use Rattle.units.proofs.lists.pair_fault.Goals as goal

@@ -2,13 +2,6 @@
 use mathlib.Core.Path.{sym, ◌∙◌, ap}
 use Rattle.units.specs.declared.lists.Raised.TheVariants.{Power}
 use Rattle.units.proofs.Sound.{raised_by, not_raised}
-use native.Mathlib.Omega.{arith}
-use Prim.Native.Nat.{ℕ, ◌+◌, ◌-◌, ◌*◌, ◌≤◌, ◌<◌}
-use lib.ListN.{length, length-set}
-use mathlib.Core.Path.{◌≡◌}
-use borrow.Author.Rules.{rules}
-use Rattle.exponents.proofs.product.Reads as product-reads
-use Rattle.units.proofs.lists.with_exponent.Reads as with-exponent-reads
 use Rattle.units.proofs.lists.power_of.Goals as goal
 
 -- src/lists.rt:228:1

@@ -1,5 +1,4 @@
 -- `product` meets its contract.
-use borrow.Author.Rules.{rules}
 use mathlib.Core.Path.{sym, ◌∙◌}
 use Rattle.units.specs.Lists.{product}
 use Rattle.units.proofs.Checked.{short, first_passed, second_passed, both_pass, stops, goes_on}

@@ -3,7 +3,6 @@ use native.Mathlib.Omega.{arith}
 use lib.ListN.{length}
 use Rattle.units.specs.declared.Factors.{Factors}
 use Rattle.units.proofs.Laws.{push_pack, len_pack}
-use borrow.Author.Rules.{rules}
 use Rattle.units.proofs.lists.push.Goals as goal
 
 -- src/lib.rt:14:1

@@ -1,13 +1,12 @@
 -- `quotient` meets its contract: the product with the inverse of the second list.
-use borrow.Author.Rules.{rules}
 use mathlib.Core.Path.{sym, ◌∙◌, ap}
 use mathlib.Core.List.{List}
 use native.Mathlib.Omega.{arith}
-use lib.ListN.{length, length-map}
+use lib.ListN.{length-map}
 use Rattle.units.specs.declared.Factor.{Factor}
 use Rattle.units.specs.declared.Factors.{Factors}
 use Rattle.units.specs.Lists.{list_of, made_of, inverted, joined, quotient}
-use Rattle.units.proofs.Laws.{full, listed, list_pack, len_pack}
+use Rattle.units.proofs.Laws.{listed, list_pack, len_pack}
 use Rattle.units.proofs.Checked.{short, no_fault, first_passed, second_passed, both_pass, stops, goes_on}
 use Rattle.units.proofs.lists.quotient.Goals as goal
 

@@ -1,6 +1,5 @@
 -- `refused` meets its contract.
 use mathlib.Core.Path.{ap}
-use borrow.Author.Rules.{rules}
 use Rattle.units.specs.declared.Factors.{Factors}
 use Rattle.units.proofs.lists.refused.Goals as goal
 

@@ -1,5 +1,4 @@
 -- `factor_of` meets its contract: the count is left.
-use borrow.Author.Rules.{rules}
 use mathlib.Core.Path.{ap}
 use Rattle.floats.specs.declared.Tally.{Tally}
 use Rattle.units.proofs.prefixes.factor_of.Goals as goal

@@ -1,5 +1,4 @@
 -- `prefix_factor` meets its contract.
-use borrow.Author.Rules.{rules}
 use mathlib.Core.Path.{sym, ◌∙◌, ap}
 use Rattle.exponents.specs.Outcome.{unless}
 use Rattle.units.specs.declared.prefixes.PrefixFactor.TheVariants.{Value}

@@ -3,7 +3,6 @@ use mathlib.Core.Path.{◌≡◌, sym, ap, ◌∙◌}
 use mir.Val.{to_z, of_z}
 use mir.Syntax.{w32}
 use Rattle.units.specs.Prefixes.{number_fault, prefix_fault}
-use Rattle.units.proofs.prefixes.number_fault.Reads as number-fault-reads
 use Rattle.units.proofs.prefixes.prefix_fault.Goals as goal
 
 -- src/lib.rt:46:1
