@@ -1,5 +1,4 @@
-// Rows written into a slice that the caller lends. Calls that read into lent rows are proved by this crate's `Into0`, calls
-// that take lent rows and lent room by its `Through`.
+// Rows written into a slice that the caller lends.
 #![tactic(auto)]
 
 ghost use Rattle.std.specs.Prelude.{◌≡◌, length};
