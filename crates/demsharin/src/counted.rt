@@ -1,9 +1,8 @@
-// The counted conversions as C functions over lent bytes: the table, the quantity, the target, then the room for the answer.
+// The counted conversions over lent bytes: the table, the quantity, the target, then the room for the answer.
 ghost use Rattle.askcounted.specs.Calls as spec;
 ghost use Rattle.demsharin.specs.Exports.{Exported};
 
-#[unsafe(no_mangle)]
-pub extern "C" fn demsharin_convert_to_counted(
+pub fn demsharin_convert_to_counted(
     table: &[u8],
     quantity: &[u8],
     target: &[u8],
@@ -15,8 +14,7 @@ pub extern "C" fn demsharin_convert_to_counted(
     r.refusal
 }
 
-#[unsafe(no_mangle)]
-pub extern "C" fn demsharin_convert_merged_counted(
+pub fn demsharin_convert_merged_counted(
     table: &[u8],
     quantity: &[u8],
     target: &[u8],

@@ -1,4 +1,4 @@
-// The calls on table files as C functions over lent bytes: the table or the file, then the room for the answer, which says
+// The calls on table files over lent bytes: the table or the file, then the room for the answer, which says
 // how much is lent for a file, or for how many rows: what it has behind two numbers.
 ghost use Rattle.std.specs.Prelude.{◌≡◌, ◌-◌};
 ghost use Rattle.askfiles.specs.Calls as files;
@@ -11,8 +11,7 @@ fn behind(len: usize) -> usize
     if len < 8 { 0 } else { len - 8 }
 }
 
-#[unsafe(no_mangle)]
-pub extern "C" fn demsharin_write_table(table: &[u8], out: &mut [u8]) -> u32
+pub fn demsharin_write_table(table: &[u8], out: &mut [u8]) -> u32
     ensures { Exported out.old (files.write_table table.now (file_room out.old)) result out.new }
 {
     let room = behind(out.len());
@@ -20,8 +19,7 @@ pub extern "C" fn demsharin_write_table(table: &[u8], out: &mut [u8]) -> u32
     r.refusal
 }
 
-#[unsafe(no_mangle)]
-pub extern "C" fn demsharin_read_table(file: &[u8], out: &mut [u8]) -> u32
+pub fn demsharin_read_table(file: &[u8], out: &mut [u8]) -> u32
     ensures { Exported out.old (files.read_table file.now (row_places out.old)) result out.new }
 {
     let places = behind(out.len()) / 176;
@@ -29,8 +27,7 @@ pub extern "C" fn demsharin_read_table(file: &[u8], out: &mut [u8]) -> u32
     r.refusal
 }
 
-#[unsafe(no_mangle)]
-pub extern "C" fn demsharin_salvage_table(file: &[u8], out: &mut [u8]) -> u32
+pub fn demsharin_salvage_table(file: &[u8], out: &mut [u8]) -> u32
     ensures { Exported out.old (files.salvage_table file.now (row_places out.old)) result out.new }
 {
     let places = behind(out.len()) / 176;

@@ -1,27 +1,15 @@
-// The calls on knot vectors as C functions over lent bytes: the table, the knots, the rule, then the room for the answer.
+// The calls on knot vectors over lent bytes: the table, the knots, the rule, then the room for the answer.
 ghost use Rattle.askknots.specs.Calls as spec;
 ghost use Rattle.demsharin.specs.Exports.{Exported};
 
-#[unsafe(no_mangle)]
-pub extern "C" fn demsharin_knot_vector(
-    table: &[u8],
-    knots: &[u8],
-    rule: &[u8],
-    out: &mut [u8],
-) -> u32
+pub fn demsharin_knot_vector(table: &[u8], knots: &[u8], rule: &[u8], out: &mut [u8]) -> u32
     ensures { Exported out.old (spec.knot_vector table.now knots.now rule.now) result out.new }
 {
     let r = askknots::knot_vector(table, knots, rule, out);
     r.refusal
 }
 
-#[unsafe(no_mangle)]
-pub extern "C" fn demsharin_span_quotient(
-    table: &[u8],
-    knots: &[u8],
-    rule: &[u8],
-    out: &mut [u8],
-) -> u32
+pub fn demsharin_span_quotient(table: &[u8], knots: &[u8], rule: &[u8], out: &mut [u8]) -> u32
     ensures { Exported out.old (spec.span_quotient table.now knots.now rule.now) result out.new }
 {
     let r = askknots::span_quotient(table, knots, rule, out);

@@ -1,5 +1,5 @@
-// The library as it ships: the calls over lent rows, passed on here, and as exported C functions over bytes, in `exports`,
-// `files`, `knots` and `counted`.
+// The library as it ships: the calls over lent rows, passed on here, and over bytes, in `exports`, `files`, `knots` and
+// `counted`. The crate demsharin_c has the latter as C functions.
 #![tactic(auto)]
 
 pub use lentcalls::{
@@ -11,7 +11,7 @@ pub use lentcalls::{
 pub use lentfiles::{read_table, salvage_table, write_table};
 pub use lentknots::{knot_vector, span_quotient};
 
-pub mod exports; // every call of 01, and 02's conversions, as C functions over bytes
-pub mod files; // the calls on table files as C functions over bytes
-pub mod knots; // the calls on knot vectors as C functions over bytes
-pub mod counted; // the counted conversions as C functions over bytes
+pub mod exports; // every call of 01, and 02's conversions, over bytes
+pub mod files; // the calls on table files over bytes
+pub mod knots; // the calls on knot vectors over bytes
+pub mod counted; // the counted conversions over bytes
