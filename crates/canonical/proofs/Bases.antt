@@ -38,7 +38,7 @@ module _ (W : Value) where
     nay = λ e h. W.same_not x y e (W.low_same x y p.low q.low (sym p.is ∙ h ∙ q.is));
   }
 
-  pub same_decides : {bs : List (ℕ → Exponent)} (l m : List Factor) {xs ys : List Exponent} →
+  pub same_decides : (l m : List Factor) {bs : List (ℕ → Exponent)} {xs ys : List Exponent} →
       Along (Exactly l) bs xs → Along (Exactly m) bs ys → Decides (Agree bs l m) (same_all xs ys)
   unfolding same_all
   same_decides l m done done = always tt
@@ -49,7 +49,7 @@ module _ (W : Value) where
   unfolding exact total
   none_exactly b = record { is = sym (W.nil_act _); low = W.nil_low }
 
-  pub nought_decides : {bs : List (ℕ → Exponent)} (l : List Factor) {xs : List Exponent} → Along (Exactly l) bs xs → Decides (Agree bs l []) (all_nought xs)
+  pub nought_decides : (l : List Factor) {bs : List (ℕ → Exponent)} {xs : List Exponent} → Along (Exactly l) bs xs → Decides (Agree bs l []) (all_nought xs)
   unfolding all_nought
   nought_decides l done = always tt
   nought_decides l (next p ps) = and_decides _ _ (one_decides l [] _ nought p (none_exactly _)) (nought_decides l ps)
