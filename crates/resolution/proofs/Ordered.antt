@@ -38,6 +38,7 @@ keys_pre ks = through_pre (lists_total (both_total nat_total z_total)) (λ r. en
 -- ---- the rows that a list names
 
 pub stands_first : (r : ℕ) (l m : List Factor) → Stands r l → Stands r (l ++ m)
+stands_first r [] m x = elim x [ ]
 stands_first r (f ∷ l) m (inl e) = inl e
 stands_first r (f ∷ l) m (inr s) = inr (stands_first r l m s)
 
@@ -83,6 +84,7 @@ module _ {cmp : ℕ → ℕ → Ordering} (P : Preorder cmp) where
 
     before-less : (l : List Factor) → Stands r l → 1 + before cmp l r ≤ before cmp l s
     unfolding before tally is_less
+    before-less [] x = elim x [ ]
     before-less (f ∷ l) (inl q) = rw (q, itself r, e) (let k = before-most l in omega arith)
     before-less (f ∷ l) (inr t) = more f 1 _ _ (before-less l t)
 
