@@ -31,6 +31,7 @@ pub fn table(s: &[u8]) -> Rows
     Rows { at, len }
 }
 
+#[tactic(auto, unfolding(crate::specs::Arguments::word_from))]
 pub fn word(s: &[u8]) -> u32
     ensures { result ≡ word_from s.now }
 {
