@@ -2,11 +2,11 @@
 use mathlib.Core.Path.{◌≡◌, refl, sym, ap, ◌∙◌}
 use mathlib.Core.Bool.{Bool, true, false}
 use mathlib.Core.List.{List, [], ◌∷◌, ◌++◌, map, append_assoc, append-nil}
-use Prim.Native.Nat.{ℕ, zero, suc, ◌+◌, ◌^◌, ◌≤◌, ◌<◌}
+use Prim.Native.Nat.{ℕ, zero, suc, ◌^◌, ◌≤◌, ◌<◌}
 use native.Mathlib.Omega.{arith}
 use borrow.Author.Tests.{leb-true, le-leb}
 use lib.Dec.{leb, eqb}
-use lib.Ieee.{binary64, of_bits, fits}
+use lib.Ieee.{binary64, of_bits}
 use lib.Ieee.Bits.{to_bits-of_bits, of_bits-fits}
 use lib.ListN.{length, take}
 use lib.Seq.{take-append_seam}
@@ -20,7 +20,7 @@ use Rattle.wire.proofs.Round.{FactorFits}
 use Rattle.groups.specs.Taken.{taken, provided, then, run?}
 use Rattle.groups.specs.Numbers.{number_bytes, up_to?}
 use Rattle.files.specs.Records.{factor_file, factor?, kind_file, row_file, eight?, base_row, derived_row, derived?, clean, cleaned, row?, table_file, is_nil, table?}
-use Rattle.groups.proofs.Behind.{Leaves, Then, first, parted, met, then_leaves, taken_leaves, run_leaves, same, Bytes, Only, Form, Any}
+use Rattle.groups.proofs.Behind.{Leaves, Then, first, parted, met, then_leaves, taken_leaves, run_leaves, Bytes, Only, Form, Any}
 use Rattle.groups.proofs.Groups.{up_form, up_leaves}
 use Rattle.files.proofs.Forms.{step, number_form, bit_form, factor_form, factor_leaves, run_to, run_only, eight_form, eight_leaves, RowFits, RowClean, Plain, row_back}
 
