@@ -12,8 +12,9 @@
 use canonical::equality::Verdict;
 use exponents::Exponent;
 use keys::order::Sense;
-use libc::{STDIN_FILENO, STDOUT_FILENO};
 use quantities::comparisons::Compared;
+use std::io;
+use std::io::Read;
 use units::{Candidate, Candidates, Factor, Factors, Kind, Prefix, Quantity, Row, Rows};
 use values::answers::Answer;
 
@@ -361,8 +362,8 @@ fn same_quantity(q: Quantity, p: Quantity) -> bool {
     (q.mark == p.mark) & (floats::bits_of(q.value) == floats::bits_of(p.value)) & same_list(a, b)
 }
 
-fn text(s: &[u8]) {
-    io::write_all(STDOUT_FILENO, s);
+fn text(rt: &impl Print, s: &[u8]) -> io::Result<()> {
+    rt.write_all(s)
 }
 
 fn is_right(line: &[u8], got: Answer) -> bool {
@@ -372,29 +373,27 @@ fn is_right(line: &[u8], got: Answer) -> bool {
 }
 
 // What was answered: a refusal's number or a word's, and the value's bits.
-fn show_other(got: Answer) {
+fn show_other(rt: &impl Print, got: Answer) -> io::Result<()> {
+    let refusal = got.refusal;
     let q = got.quantity;
-    text(b" DIFFERS ");
-    io::print_decimal(STDOUT_FILENO, got.refusal as u64);
-    text(b" ");
-    io::print_hex(STDOUT_FILENO, floats::bits_of(q.value), 16);
-    text(b"\n");
+    let bits = floats::bits_of(q.value);
+    println!(rt; " DIFFERS {refusal} {bits:016x}")
 }
 
-fn tried(line: &[u8]) -> bool {
+fn tried(rt: &impl Print, line: &[u8]) -> io::Result<bool> {
     let got = asked(
         byte_at(line, 52),
         quantity_at(line, 54),
         quantity_at(line, 76),
     );
     let right = is_right(line, got);
-    text(line);
+    text(rt, line)?;
     if right {
-        text(b" ok\n");
+        text(rt, b" ok\n")?;
     } else {
-        show_other(got);
+        show_other(rt, got)?;
     }
-    right
+    Ok(right)
 }
 
 // How many cases there were, and how many of them differed.
@@ -412,24 +411,23 @@ enum Outcome {
 }
 
 // The next line.
-fn next() -> Outcome {
+fn next<R: Read>(rt: &impl Print, input: &mut R) -> io::Result<Outcome> {
     let mut line = [0; 122];
-    let n = io::read_full(STDIN_FILENO, &mut line);
-    if n < 122 {
-        return Outcome::NoMore;
+    if input.read_exact(&mut line).is_err() {
+        return Ok(Outcome::NoMore);
     }
-    if tried(&line[0..121]) {
-        Outcome::Right
+    if tried(rt, &line[0..121])? {
+        Ok(Outcome::Right)
     } else {
-        Outcome::Wrong
+        Ok(Outcome::Wrong)
     }
 }
 
-fn run() -> Tally {
+fn run<R: Read>(rt: &impl Print, input: &mut R) -> io::Result<Tally> {
     let mut cases: u64 = 0;
     let mut wrong: u64 = 0;
     while cases < 1000 {
-        let o = next();
+        let o = next(rt, input)?;
         match o {
             Outcome::Right => {}
             Outcome::Wrong => {
@@ -441,13 +439,12 @@ fn run() -> Tally {
         }
         cases += 1;
     }
-    Tally { cases, wrong }
+    Ok(Tally { cases, wrong })
 }
 
-fn main() {
-    let t = run();
-    io::print_decimal(STDOUT_FILENO, t.cases);
-    text(b" cases, ");
-    io::print_decimal(STDOUT_FILENO, t.wrong);
-    text(b" differ\n");
+fn main(rt: HostRuntime) -> io::Result<()> {
+    let t = run(&rt, &mut rt.stdin())?;
+    let cases = t.cases;
+    let wrong = t.wrong;
+    println!(rt; "{cases} cases, {wrong} differ")
 }

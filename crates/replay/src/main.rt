@@ -5,8 +5,11 @@
 ghost use Rattle.std.specs.Prelude.{◌+◌, ◌≤◌, length};
 
 use inflow::Held;
-use libc::STDOUT_FILENO;
 use recorded::Tally;
+use std::env::{Env, FillError};
+use std::fs::Files;
+use std::io::Read;
+use std::{fs, io, str};
 
 mod recorded; // records compared with the answers of the calls
 
@@ -16,7 +19,7 @@ struct Both {
     t: Tally,
 }
 
-fn turn(fd: i32, inp: &mut [u8], out: &mut [u8], h: Held, t: Tally) -> Both
+fn turn<R: Read>(source: &mut R, inp: &mut [u8], out: &mut [u8], h: Held, t: Tally) -> Both
     requires { (h.at ≤ h.end) × (h.end ≤ length inp.old) }
     ensures { (result.h.at ≤ result.h.end) × (result.h.end ≤ length inp.old) }
 {
@@ -32,7 +35,7 @@ fn turn(fd: i32, inp: &mut [u8], out: &mut [u8], h: Held, t: Tally) -> Both
         return Both { h: k, t: u };
     }
     if u.used == 0 {
-        let k = inflow::refill(fd, inp, at, end);
+        let k = inflow::refill(source, inp, at, end);
         return Both { h: k, t: u };
     }
     let k = Held {
@@ -43,22 +46,21 @@ fn turn(fd: i32, inp: &mut [u8], out: &mut [u8], h: Held, t: Tally) -> Both
     Both { h: k, t: u }
 }
 
-fn say(b: Both) {
-    io::print_decimal(STDOUT_FILENO, b.t.compared);
-    io::write_all(STDOUT_FILENO, b" compared, ");
-    io::print_decimal(STDOUT_FILENO, b.t.differ);
-    io::write_all(STDOUT_FILENO, b" differ");
-    if b.t.differ != 0 {
-        io::write_all(STDOUT_FILENO, b", first ");
-        io::print_decimal(STDOUT_FILENO, b.t.first);
+fn say(rt: &impl Print, b: Both) -> io::Result<()> {
+    let compared = b.t.compared;
+    let differ = b.t.differ;
+    print!(rt; "{compared} compared, {differ} differ")?;
+    if differ != 0 {
+        let first = b.t.first;
+        print!(rt; ", first {first}")?;
     }
     if b.h.at != b.h.end {
-        io::write_all(STDOUT_FILENO, b", then no record");
+        print!(rt; ", then no record")?;
     }
-    io::write_all(STDOUT_FILENO, b"\n");
+    println!(rt)
 }
 
-fn replay(fd: i32, inp: &mut [u8], out: &mut [u8]) -> Both {
+fn replay<R: Read>(source: &mut R, inp: &mut [u8], out: &mut [u8]) -> Both {
     let h = Held {
         at: 0,
         end: 0,
@@ -72,42 +74,48 @@ fn replay(fd: i32, inp: &mut [u8], out: &mut [u8]) -> Both {
         bad: false,
     };
     let mut b = Both { h: h, t: t };
-    let mut turns = u64::MAX;
-    while turns > 0 {
+    for _ in 0..u64::MAX {
         if !b.h.live {
             return b;
         }
-        b = turn(fd, inp, out, b.h, b.t);
-        turns -= 1;
+        b = turn(source, inp, out, b.h, b.t);
     }
     b
 }
 
-fn file(k: usize, inp: &mut [u8], out: &mut [u8]) {
-    let mut path = io::buffer();
-    let n = os::arg(k, &mut path);
-    io::write_all(STDOUT_FILENO, &path[..n]);
-    io::write_all(STDOUT_FILENO, b": ");
-    let fd = os::open_read(&path[..n]);
-    if fd < 0 {
-        io::write_all(STDOUT_FILENO, b"cannot be opened\n");
-        return;
-    }
-    say(replay(fd, inp, out));
-    libc::close(fd);
-}
-
-fn files(inp: &mut [u8], out: &mut [u8]) {
-    let n = os::arg_count();
-    let mut k: usize = 1;
-    while k < n {
-        file(k, inp, out);
-        k = k + 1;
+// The file with this name, if it is there to be read.
+fn opened<R: Files>(rt: &R, path: &[u8]) -> Option<R::File> {
+    match str::from_utf8(path) {
+        Ok(name) => fs::open(rt, name).ok(),
+        Err(_) => None,
     }
 }
 
-fn main() {
+fn file<R: Files + Print>(rt: &R, path: &[u8], inp: &mut [u8], out: &mut [u8]) -> io::Result<()> {
+    rt.write_all(path)?;
+    print!(rt; ": ")?;
+    match opened(rt, path) {
+        Some(mut source) => say(rt, replay(&mut source, inp, out)),
+        None => println!(rt; "cannot be opened"),
+    }
+}
+
+// An argument that is longer than any path counts as an empty one.
+fn files<R: Env + Files + Print>(rt: &R, inp: &mut [u8], out: &mut [u8]) -> io::Result<()> {
+    let mut path = [0u8; 4096];
+    for k in 1..usize::MAX {
+        let n = match rt.arg(k, &mut path) {
+            Ok(n) => n,
+            Err(FillError::TooLong) => 0,
+            Err(FillError::NotPresent) => break,
+        };
+        file(rt, &path[..n], inp, out)?;
+    }
+    Ok(())
+}
+
+fn main(rt: HostRuntime) -> io::Result<()> {
     let mut inp = inflow::space();
     let mut out = [0u8; stream::LONGEST];
-    files(&mut inp, &mut out);
+    files(&rt, &mut inp, &mut out)
 }
