@@ -8,7 +8,7 @@ use native.Mathlib.Omega.{arith}
 use borrow.Author.Tests.{le-leb, lt-leb, eq-eqb, ne_eqb}
 use lib.Ieee.{Float, binary64, of_bits}
 use lib.ListN.{length, set, drop, replicate, length-append, length-drop}
-use lib.Seq.{set-append_seam, get_or-drop, drop-drop}
+use lib.Seq.{get_or-drop, drop-drop}
 use Rattle.units.specs.declared.Factor.{Factor}
 use Rattle.units.specs.declared.Kind.TheVariants.{Derived}
 use Rattle.units.specs.declared.Row.{Row}
