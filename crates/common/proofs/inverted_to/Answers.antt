@@ -1,5 +1,4 @@
 -- `inverted_to` meets its contract: the negative of an exponent that keeps its rule is in range, so the other arm is never taken.
-use borrow.Author.Rules.{rules}
 use mathlib.Core.Path.{sym, ◌∙◌}
 use Rattle.exponents.proofs.Numbers.{always_negated}
 use Rattle.common.proofs.Sharing.{inverted_item}

@@ -1,5 +1,4 @@
 -- `left_of` meets its contract.
-use borrow.Author.Rules.{rules}
 use mathlib.Core.Path.{sym, ◌∙◌}
 use Rattle.common.proofs.Lessening.{left_less, left-more, left-part, left_refused}
 use Rattle.common.proofs.left_of.Goals as goal

@@ -1,5 +1,4 @@
 -- `meet` meets its contract.
-use borrow.Author.Rules.{rules}
 use Rattle.common.proofs.Sharing.{both_positive, both_negative, unlike_signs}
 use Rattle.common.proofs.meet.Goals as goal
 

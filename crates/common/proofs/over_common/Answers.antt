@@ -1,21 +1,15 @@
 -- `over_common` meets its contract. It compares by place; at the end the table's order says the same. The invariants: the factors before i are done, and what they share are the first k items; the factors of m before j have another row or prefix than the one at i, and that at `end`, if it isn't past the last, has them.
-use borrow.Author.Rules.{rules}
 use mathlib.Core.Path.{◌≡◌, refl, ap, ◌∙◌}
-use mathlib.Core.Bool.{false}
-use mathlib.Core.Logic.{⊎_elim}
-use mathlib.Core.List.{List, map}
-use Prim.Native.Nat.{Ordering}
-use Prim.Native.Nat.{◌-◌, ◌≤◌, ◌<◌}
+use mathlib.Core.List.{map}
+use Prim.Native.Nat.{◌<◌}
 use native.Mathlib.Omega.{arith}
-use lib.ListN.{length, drop, get_or}
-use Rattle.units.specs.declared.Factor.{Factor}
-use Rattle.units.specs.Lists.{no_factor, some, factor_fault, inverted}
-use Rattle.tables.specs.Held.{View, pack_items, by_place}
-use Rattle.canonical.specs.Held.{spots}
+use lib.ListN.{length, get_or}
+use Rattle.units.specs.Lists.{no_factor, inverted}
+use Rattle.tables.specs.Held.{pack_items, by_place}
 use Rattle.canonical.proofs.Comparing.{told-less, told-equal, told_more}
 use Rattle.reduction.proofs.Resolved.{nil_item, items_len, item_at}
 use Rattle.common.specs.Common.{meet, shared_with_lem}
-use Rattle.common.proofs.Sharing.{shared_end, shared_here, shared_behind, shared_before, Gathered, gathered_none, own_place, gathered_past, gathered_on, gathered_end, moved}
+use Rattle.common.proofs.Sharing.{shared_end, shared_here, shared_behind, shared_before, gathered_none, own_place, gathered_past, gathered_on, gathered_end, moved}
 use Rattle.common.proofs.Resolved.{common_placed}
 use Rattle.common.proofs.over_common.Goals as goal
 use Rattle.common.proofs.over_common.Goals.{then-j-u+in-Takes, then-j-u+in-Nothing, else-j-u}
@@ -73,7 +67,7 @@ loop-i-preserved c =
           let here : c.loop-j.j < length gs → meet x.factor.exponent (get_or a.m.at c.loop-j.j nil_item).factor.exponent ≡ shared_with_lem (by_place v) x.factor gs =
           λ h. shared_here v a.m gs q _ _ own c.loop-j.j passed h nil_item c.loop-j.end (omega arith) (c.loop-j.invariant.3 (omega arith)) in
           elim c.if-j-u.branch [
-            then-j-u+in-Takes t ↦ moved t.o-is t.k-is (gathered_on v fs gs k.o k.k k.i so_far (omega arith) x is t.meet-s.result (t.meet-s.ensures ∙ here (omega (arith, t.if-j-u.true))) sf sg (omega arith) _ t.in-Takes.is _ _ t.inverted_to.ensures)
+            | then-j-u+in-Takes t ↦ moved t.o-is t.k-is (gathered_on v fs gs k.o k.k k.i so_far (omega arith) x is t.meet-s.result (t.meet-s.ensures ∙ here (omega (arith, t.if-j-u.true))) sf sg (omega arith) _ t.in-Takes.is _ _ t.inverted_to.ensures)
             | then-j-u+in-Nothing t ↦ moved t.o-is t.k-is (gathered_past v fs gs k.o k.k k.i so_far (omega arith) x is t.meet-s.result (t.meet-s.ensures ∙ here (omega (arith, t.if-j-u.true))) t.in-Nothing.is)
             | else-j-u t ↦ moved t.o-is t.k-is (gathered_past v fs gs k.o k.k k.i so_far (omega arith) x is _ (shared_end v a.m gs q _ _ own c.loop-j.j passed (omega (arith, t.if-j-u.false))) refl)
           ],

@@ -1,22 +1,17 @@
 -- `over_common` meets its contract. It compares by place; at the end the table's order says the same. The invariants: the factors before i are done, and what they share are the first k items; the factors of m before j have another row or prefix than the one at i, and that at `end`, if it isn't past the last, has them.
-use borrow.Author.Rules.{rules}
-use mathlib.Core.Path.{◌≡◌, refl, ap, ◌∙◌}
+use mathlib.Core.Path.{◌≡◌}
 use mathlib.Core.Bool.{false}
-use mathlib.Core.Logic.{⊎_elim}
-use mathlib.Core.List.{List, map}
+use mathlib.Core.List.{List}
 use Prim.Native.Nat.{Ordering}
 use Prim.Native.Nat.{◌-◌, ◌≤◌, ◌<◌}
-use native.Mathlib.Omega.{arith}
 use lib.ListN.{length, drop, get_or}
 use Rattle.units.specs.declared.Factor.{Factor}
-use Rattle.units.specs.Lists.{no_factor, some, factor_fault, inverted}
+use Rattle.units.specs.Lists.{some, factor_fault}
 use Rattle.tables.specs.Held.{View, pack_items, by_place}
 use Rattle.canonical.specs.Held.{spots}
-use Rattle.canonical.proofs.Comparing.{told-less, told-equal, told_more}
-use Rattle.reduction.proofs.Resolved.{nil_item, items_len, item_at}
-use Rattle.common.specs.Common.{meet, shared_with_lem}
-use Rattle.common.proofs.Sharing.{shared_end, shared_here, shared_behind, shared_before, Gathered, gathered_none, own_place, gathered_past, gathered_on, gathered_end, moved}
-use Rattle.common.proofs.Resolved.{common_placed}
+use Rattle.reduction.proofs.Resolved.{nil_item}
+use Rattle.common.specs.Common.{shared_with_lem}
+use Rattle.common.proofs.Sharing.{Gathered}
 use Rattle.common.proofs.over_common.Given as goal
 
 abbrev pub invariant-loop-j : goal.invariant-loop-j
