@@ -1,0 +1,12 @@
+-- `smaller_unit` meets its contract.
+use borrow.Author.Rules.{rules}
+use Rattle.tables.proofs.Telling.{blank_new}
+use Rattle.lists.proofs.reductions.smaller_unit.Goals as goal
+
+pub open_lists-o-requires : goal.open_lists-o-requires
+open_lists-o-requires c = search (rules, blank_new)
+
+pub returns : goal.returns
+returns c =
+    let s = c.args in
+    c.smaller_unit_over.ensures s.rows s.a s.b c.open_lists-o.ensures
