@@ -1,6 +1,5 @@
 -- `cancelling_rate` meets its contract.
 use mathlib.Core.Bool.{false≢true}
-use borrow.Author.Rules.{rules}
 use Rattle.floats.specs.Power.{tally}
 use Rattle.tables.specs.Rules.{counted}
 use Rattle.tables.specs.Held.{rules_by}
@@ -8,17 +7,10 @@ use Rattle.canonical.specs.Canonical.{canon}
 use Rattle.conversion.specs.Conversion.{convert_by}
 use Rattle.conversion.proofs.Rating.{rate_plain}
 use Rattle.conversion.proofs.Forgetting.{forget_convert}
-use Rattle.conversion.proofs.convert.cancelling_rate.Statement.{statement}
-use Rattle.conversion.proofs.convert.cancelling_rate.Tie as tie
+use Rattle.conversion.proofs.convert.cancelling_rate.Goals as goal
 
-by-rule-requires : tie.Need-by-rule-requires
-by-rule-requires c κs = search rules
-
-returns : tie.Need-returns
+pub returns : goal.returns
 returns c v fs gs lends rl rm x =
-    let R = rules_by v c.before.before.args.n in
+    let R = rules_by v c.args.n in
     rate_plain _ x (convert_by (counted R) (canon v.order) fs gs (tally x 0)) _ (forget_convert R (canon v.order) fs gs (tally x 0))
-    (c.by-rule.ensures v fs gs lends rl rm x (λ e. absurd (false≢true e)))
-
-pub cancelling-rate-spec : {M : Type 1} → statement M
-cancelling-rate-spec = tie.close (tie.spec by-rule-requires returns)
+    (c.by_rule.ensures v fs gs lends rl rm x (λ e. absurd (false≢true e)))
