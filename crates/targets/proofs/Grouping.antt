@@ -222,7 +222,7 @@ module _ (v : View) (f g : Factor) (x y : Item) (p : x ≡ item_of v f) (q : y �
 pub greatest_all : (P : Factor → Type 0) (base : ℕ → Bool) (f : Factor) (l : List Factor) → P f → All P l → P (greatest base f l)
 unfolding greatest
 greatest_all P base f [] p h = p
-greatest_all P base f (g ∷ l) p h = greatest_all P base _ l (pick_is P (above base f g) p h.0) h.1
+greatest_all P base f (g ∷ l) p h = greatest_all P base (pick (above base f g) f g) l (pick_is P (above base f g) p h.0) h.1
 
 -- the place r holds the greatest of those before i
 module _ (base : ℕ → Bool) (f : Factor) (fs : List Factor) (r i : ℕ) (so_far : greatest base (get_or (f ∷ fs) r f) (drop i (f ∷ fs)) ≡ greatest base f fs) where
