@@ -1,14 +1,13 @@
 -- From filled values to the core: the count, the lowest refused knot, and values that are all there.
 use mathlib.Core.Path.{◌≡◌, refl, sym, ◌∙◌, ap}
-use mathlib.Core.Bool.{Bool, true, false}
+use mathlib.Core.Bool.{Bool, false}
 use mathlib.Core.List.{List}
-use Prim.Native.Nat.{ℕ, ◌+◌, ◌-◌, ◌*◌, ◌≤◌, ◌<◌}
+use Prim.Native.Nat.{ℕ, ◌-◌, ◌*◌, ◌≤◌, ◌<◌}
 use native.Mathlib.Omega.{arith}
 use lib.ListN.{length, take, length-map}
 use lib.Ieee.{Float}
 use Rattle.exponents.specs.Outcome.{Refusal, number, Outcome, given, refused, refusal_of}
 use Rattle.units.specs.declared.Factors.{Factors}
-use Rattle.units.specs.declared.Quantity.{Quantity}
 use Rattle.units.specs.declared.Rows.{Rows}
 use Rattle.quantities.specs.Calls.{merged_value}
 use Rattle.wire.specs.Arguments.{many_in}
