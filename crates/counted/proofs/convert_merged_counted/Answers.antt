@@ -1,0 +1,12 @@
+-- `convert_merged_counted` meets its contract.
+use borrow.Author.Rules.{rules}
+use Rattle.tables.proofs.Telling.{blank_new}
+use Rattle.counted.proofs.convert_merged_counted.Goals as goal
+
+pub open_lists-o-requires : goal.open_lists-o-requires
+open_lists-o-requires c = search (rules, blank_new)
+
+pub returns : goal.returns
+returns c =
+    let s = c.args in
+    c.convert_merged_counted_over.ensures s.rows s.target c.open_lists-o.ensures
