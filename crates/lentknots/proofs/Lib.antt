@@ -1,3 +1,0 @@
-pub mod ThinLSP
-pub mod ThinLSPMM
-pub mod Types
