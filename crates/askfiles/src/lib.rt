@@ -35,7 +35,7 @@ pub fn write_table(table: &[u8], room: usize, out: &mut [u8]) -> Reply
 // The first n rows behind two numbers, their own and another.
 fn rows_behind(rows: Rows, n: usize, other: usize, out: &mut [u8]) -> Reply
     requires { n ≤ 128 }
-    ensures* { λ r. ⌜ ((rs : List Rowᵛ) → rows ≡ lent_rows_lem rs → n ≡ length rs → All (λ r. length r.def ≡ 8) rs → Replied out.old (given (spec.rows_reply other rs)) r out.new) ⌝ }
+    ensures { (rs : List Rowᵛ) → rows ≡ lent_rows_lem rs → n ≡ length rs → All (λ r. length r.def ≡ 8) rs → Replied out.old (given (spec.rows_reply other rs)) result out.new }
 {
     let len = 8 + n * 176;
     if out.len() < len {
