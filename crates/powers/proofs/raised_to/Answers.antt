@@ -1,6 +1,5 @@
 -- `raised_to` meets its contract.
-use mir.Syntax.{w32}
-use Rattle.std.proofs.Common.{true, ◌&&◌, sym, ap, ◌∙◌, to_z-of_z}
+use Rattle.std.proofs.Common.{true, ◌&&◌, sym, ap, ◌∙◌, to_z-of_z, w32, rules}
 use lib.Ieee.{lt}
 use Rattle.exponents.specs.Outcome.{given, each}
 use Rattle.floats.specs.Power.{power}
@@ -19,7 +18,7 @@ returns-then-is_zero-x c =
 
 pub returns-then-m-ne0 : goal.returns-then-m-ne0
 returns-then-m-ne0 c =
-    let r = to_z-of_z {w = w32} (record { sfits = c.in-Number.known_told-1-own.given.0.1 }) in
+    let r = to_z-of_z {w = w32} (search rules) in
     let s = c.args in
     let h = ap (λ b. b && lt s.x zero) (sym c.is_zero.ensures) ∙ c.if-is_zero-x.false in
     made_refused true (power s.value c.in-Number.n) (each (raised (over1 c.in-Number.n)) (list_of s.l)) c.each_power-m.result c.refused-then-m-ne0.result (c.each_power-m.ensures ∙ ap (λ z. made_of (each (raised (over1 z)) (list_of s.l))) r) c.if-m-ne0.true c.refused-then-m-ne0.ensures
@@ -27,7 +26,7 @@ returns-then-m-ne0 c =
 
 pub returns-else-m-ne0 : goal.returns-else-m-ne0
 returns-else-m-ne0 c =
-    let r = to_z-of_z {w = w32} (record { sfits = c.in-Number.known_told-1-own.given.0.1 }) in
+    let r = to_z-of_z {w = w32} (search rules) in
     let s = c.args in
     let h = ap (λ b. b && lt s.x zero) (sym c.is_zero.ensures) ∙ c.if-is_zero-x.false in
     made_kept true (power s.value c.in-Number.n) (each (raised (over1 c.in-Number.n)) (list_of s.l)) c.each_power-m.result c.with_mark.result (c.each_power-m.ensures ∙ ap (λ z. made_of (each (raised (over1 z)) (list_of s.l))) r) c.if-m-ne0.false (λ fs e. c.with_mark.ensures fs e ∙ ap (λ v. answered_of (given (fresh v fs))) (c.power.ensures ∙ ap (power s.value) r))
