@@ -1,2 +1,3 @@
 pub mod WholeNumbers
+pub mod WholeParts
 pub mod Raising

@@ -15,7 +15,8 @@ pub enum Whole {
 pub fn whole_exponent(x: f64) -> Whole
     ensures { result ≡ whole_of (spec.whole_exponent x) }
 {
-    if x % 1.0 == 0.0 {
+    // `x % 1.0` says the same, and the compiler makes of it a call of the C library's `fmod`
+    if x.fract() == 0.0 {
         if x <= 2147483647.0 {
             if x >= -2147483647.0 {
                 let t = std::num::truncating_f64_to_i64(x);
