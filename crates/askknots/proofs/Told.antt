@@ -1,17 +1,17 @@
 -- What the calls on knot vectors tell, as outcomes: 512 places have room for every vector.
 use mathlib.Core.Path.{◌≡◌, refl, sym, ap, ◌∙◌}
 use mathlib.Core.List.{List, [], ◌∷◌, map, ◌++◌}
-use Prim.Native.Nat.{ℕ, ◌≤◌, ◌<◌}
+use Prim.Native.Nat.{ℕ, ◌≤◌}
 use native.Mathlib.Omega.{arith}
 use borrow.Author.Tests.{le-ltb}
 use lib.ListN.{length, take, drop, length-map, length-append}
 use lib.Ieee.{Float}
-use Rattle.exponents.specs.Outcome.{Refusal, Outcome, given, refused, number}
+use Rattle.exponents.specs.Outcome.{Outcome, given, refused, number}
 use Rattle.exponents.proofs.Numbers.{Refuses}
 use Rattle.exponents.proofs.Steps.{unless_off, bind_on, bind_off}
 use Rattle.units.specs.declared.Rows.{Rows}
 use Rattle.knotruns.specs.Runs.{Run, firsts, multiplicities}
-use Rattle.knotruns.specs.Knots.{vector, roomy, firsts_into, times_into}
+use Rattle.knotruns.specs.Knots.{roomy, firsts_into, times_into}
 use Rattle.knotruns.specs.Held.{told_of, quotient_of}
 use Rattle.knotruns.specs.declared.Told.{Told}
 use Rattle.knotruns.specs.declared.Told.TheVariants as told
