@@ -3,12 +3,18 @@
 # Proves the library and writes its archive, if a source is newer; or takes the one of HOST_ARCHIVE, proved or not.
 archive() {
     archive=${HOST_ARCHIVE:-$root/target/staticlib}
-    local built=$archive/libdemsharin.a
-    if [ -z "${HOST_ARCHIVE:-}" ] &&
-        { [ ! -f "$built" ] || [ -n "$(find "$root/crates" "$root/crates.txt" -newer "$built" -print -quit)" ]; }; then
-        (cd "$root" && rt staticlib demsharin) >"$build/archive.log" 2>&1 || { tail -n 20 "$build/archive.log" >&2 && return 1; }
+    local built=$archive/libdemsharin.a crate=$root/crates/demsharin_c
+    if [ -z "${HOST_ARCHIVE:-}" ] && { [ ! -f "$built" ] || newer "$built"; }; then
+        (cd "$crate" && rt lib) >"$build/archive.log" 2>&1 || { tail -n 20 "$build/archive.log" >&2 && return 1; }
+        mkdir -p "$archive"
+        cp "$crate/out/libdemsharin_c.a" "$built"
     fi
     [ -f "$built" ] || { echo "no archive in $archive" >&2 && return 1; }
+}
+
+# newer FILE: whether a source of a crate is newer
+newer() {
+    [ -n "$(find "$root/crates" "$root/crates.txt" -name out -prune -o -newer "$1" -type f -print -quit)" ]
 }
 
 # What every step stands on: the tools, the archive, the wrapper over it.

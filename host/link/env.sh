@@ -1,5 +1,5 @@
 # Sourced with $link_work set to the folder that setup.sh filled; on x86-64 $link_rustc may name a rustc. Gives, on either:
-#   rustc_x86 ARGS              rustc for x86-64, to link an archive of `rt staticlib`
+#   rustc_x86 ARGS              rustc for x86-64, to link an archive of `rt lib`
 #   cc_x86 SOURCE OUT ARGS      a C program for x86-64; ARGS go to the compiler or to the linker, -L and -l as they are known
 #   run_x86 PROGRAM ARGS        runs either: directly, or under the kit's emulator, loader and C library
 if [ "$(uname -m)" = aarch64 ]; then

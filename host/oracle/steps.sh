@@ -187,22 +187,19 @@ replay() {
     program compare "$streams/requests" "$streams/stored" "$streams/rust"
 }
 
-# Sets the array `calls`: the command of ORACLE_CALLS, or the project's own program, proved and built if a source is newer.
-# That is for x86-64 and the kit's own C library; on another processor the kit has an emulator.
+# Sets the array `calls`: the command of ORACLE_CALLS, or the project's own program, which `rt run` proves and builds (and
+# starts, here on no input) if a source is newer. That is for x86-64.
 find_calls() {
-    local built=$root/target/bin/calls kit emulator
+    local built=$root/crates/calls/out/calls
     read -ra calls <<<"${ORACLE_CALLS:-}"
     if [ ${#calls[@]} != 0 ]; then
         command -v "${calls[0]}" >"$streams/told" || { echo "no program ${calls[0]}" >&2 && return 1; }
         return
     fi
-    if [ ! -f "$built" ] || [ -n "$(find "$root/crates" "$root/crates.txt" -newer "$built" -print -quit)" ]; then
-        (cd "$root" && rt check calls) >"$build/calls.log" 2>&1 || { tail -n 20 "$build/calls.log" >&2 && return 1; }
+    if [ ! -f "$built" ] || [ -n "$(find "$root/crates" "$root/crates.txt" -name out -prune -o -newer "$built" -type f -print -quit)" ]; then
+        (cd "$root/crates/calls" && rt run) >"$build/calls.log" 2>&1 </dev/null || { tail -n 20 "$build/calls.log" >&2 && return 1; }
     fi
-    kit=$(dirname "$(dirname "$(rt doc)")")/on/$(uname -m)/toolchain
-    emulator=$kit/bin/qemu-x86_64
-    [ ! -x "$emulator" ] || calls=("$emulator")
-    calls+=("$kit/lib/ld-linux-x86-64.so.2" --library-path "$kit/lib" "$built")
+    calls=("$built")
 }
 
 # timed NAME COMMAND ..: adds the nanoseconds to `spent`, and ends as the command does
