@@ -47,6 +47,7 @@ fn bad_rule() -> Rule
     }
 }
 
+#[tactic(auto, unfolding(crate::specs::Records::rule_from))]
 fn rule_of(s: &[u8]) -> Rule
     ensures { result ≡ rule_from s.now }
 {
