@@ -64,6 +64,7 @@ module _ (W : Value) (ks : List Facts) (l m : List Factor) where
       Agree W (map (exp_at ks) (places p n)) l m
   unfolding places
   agrees_from p zero xs a f = tt
+  agrees_from p (suc n) [] a f = elim a [ ]
   agrees_from p (suc n) (x ∷ xs) (next q a) f = (
     q.is ∙ sym (subst (λ i. exact W m (exp_at ks i) ≡ worth W x) (omega arith) (f 0 (omega arith))),
     agrees_from (suc p) n xs a (λ j h. subst (λ i. exact W m (exp_at ks i) ≡ worth W (get_or xs j nought)) (omega arith) (f (suc j) (omega arith))),
