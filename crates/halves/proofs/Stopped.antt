@@ -27,7 +27,7 @@ use Rattle.units.specs.Lists.{factor_fault, some, checked, both}
 use Rattle.keys.specs.Key.{multiple, key}
 use Rattle.tables.specs.declared.Slot.{Slot}
 use Rattle.tables.specs.Lists.{base}
-use Rattle.tables.specs.Rows.{Facts, bases, def_of, table_fault, row_exps, row_scale, worked_out, row_facts, Admission, admitted, stopped, admit_on, admit_from, rows_of, admit, known, table, base_rows}
+use Rattle.tables.specs.Rows.{Facts, bases, def_of, table_fault, row_exps, row_scale, worked_out, row_facts, Admission, stopped, admit_on, admit_from, rows_of, admit, known, table, base_rows}
 use Rattle.tables.specs.Rules.{Rules, rules_in, scale_by}
 use Rattle.canonical.proofs.Total.{order_in_total}
 use Rattle.canonical.specs.Canonical.{canon}
