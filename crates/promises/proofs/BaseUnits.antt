@@ -52,6 +52,7 @@ placed_own s (t ∷ l) = pick_is (In s.row) (ltb s.rank t.rank) (here refl) (the
 module _ (r : ℕ) where
   placed_old : (s : Slot) (l : List Slot) → In r l → In r (placed s l)
   unfolding placed
+  placed_old s [] p = elim p [ ]
   placed_old s (t ∷ l) (here e) = pick_is (In r) (ltb s.rank t.rank) (there (subst (λ n. In n (placed t l)) e (placed_own t l))) (here e)
   placed_old s (t ∷ l) (there p) = pick_is (In r) (ltb s.rank t.rank) (there (placed_old t l p)) (there (placed_old s l p))
 
@@ -97,6 +98,7 @@ all_placed d i l (r ∷ rs) (k ∷ ks) n b m (suc j) h e =
 
 -- by its number
 place_of : {r : ℕ} (l : List Slot) → In r l → (j : ℕ) × (j < length l) × ((get_or l j no_slot).row ≡ r)
+place_of [] p = elim p [ ]
 place_of (s ∷ l) (here e) = (0, omega arith, e)
 place_of (s ∷ l) (there p) = let q = place_of l p in (suc q.0, omega (arith, q.1), q.2)
 
@@ -229,6 +231,7 @@ unit-nought e = let z : ◌≡◌ {A = ℤ} (pos 1) (pos 0) = ap (λ (x : Expone
 
 -- unlike at r itself
 unlike : (r : ℕ) (v : Slot → Exponent) (ss : List Slot) → In r ss → ((s : Slot) → s.row ≡ r → v s ≡ nought) → map (self_exp r) ss ≡ map v ss → ⊥
+unlike r v [] p h e = elim p [ ]
 unlike r v (s ∷ ss) (here q) h e =
     let first : self_exp r s ≡ v s = cons_first e in
     unit-nought (sym (ap (λ b. pick b unit nought) (eq-eqb s.row r q)) ∙ first ∙ h s q)

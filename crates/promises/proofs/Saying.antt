@@ -25,7 +25,6 @@ use Rattle.tables.specs.Scale.{raise as raisedBy, raised_to, scale_from_lem}
 use Rattle.tables.specs.Rows.{exp_at, scale_at, places, placed, slotted, slots_from, is_base, count, kind_fault, table_fault, row_exps, row_scale, worked_out, row_facts, admit_from, admit}
 use Rattle.tables.specs.Order.{key_order, row_order}
 use Rattle.keys.specs.Orders.{is_eq}
-use Rattle.canonical.specs.Canonical as form
 use Rattle.canonical.specs.Canonical.{place, insert, gather, nonzero, canon, same_list, same_all, all_nought, drop_if}
 use Rattle.canonical.specs.Equality as forms
 use Rattle.reduction.specs.Multiple.{Maybe, first_base, fits, multiple_of, is_multiple}
