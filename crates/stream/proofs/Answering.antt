@@ -9,13 +9,12 @@ use native.Mathlib.Numerals.{add-one}
 use native.Mathlib.Omega.{arith}
 use lib.Dec.{eqb, ltb}
 use borrow.Author.Tests.{ltb-true, ltb-false, eqb-true, not-false, lt-ltb, le-ltb}
-use lib.ListN.{length, take, drop, length-append, length-drop, length-replicate, take-append-drop}
-use lib.Seq.{sets, sets-eq, length-take-le, take-append-le, take-take, take_at, drop_at, drop-append-add, drop-append-le, drop-drop}
+use lib.ListN.{length, take, drop, length-append, length-drop, length-replicate}
+use lib.Seq.{sets, length-take-le, take_at, drop-append-add, drop-drop}
 use Rattle.exponents.specs.Outcome.{Outcome, given, refused}
 use Rattle.exponents.proofs.InRange.{or_left, or_right}
 use Rattle.wire.specs.Bytes.{le, bytes_of}
 use Rattle.wire.proofs.Digits.{length-bytes_of}
-use Rattle.wire.proofs.Stored.{sets_number}
 use Rattle.replies.specs.Replies.{sent, left}
 use Rattle.replies.specs.Held.{reply_of}
 use Rattle.replies.specs.declared.Reply.{Reply}
