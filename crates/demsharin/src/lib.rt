@@ -1,5 +1,5 @@
-// The library as it ships: the calls over lent rows, passed on here, and over bytes, in `exports`, `files`, `knots` and
-// `counted`. The crate demsharin_c has the latter as C functions.
+// The library as it ships: the calls over lent rows, passed on here, and over bytes, in `exports`, `file_exports`,
+// `knot_exports` and `counted_exports`. The crate demsharin_c has the latter as C functions.
 #![tactic(auto)]
 
 pub use lentcalls::{
@@ -12,6 +12,6 @@ pub use lentfiles::{read_table, salvage_table, write_table};
 pub use lentknots::{knot_vector, span_quotient};
 
 pub mod exports; // every call of 01, and 02's conversions, over bytes
-pub mod files; // the calls on table files over bytes
-pub mod knots; // the calls on knot vectors over bytes
-pub mod counted; // the counted conversions over bytes
+pub mod file_exports; // the calls on table files over bytes
+pub mod knot_exports; // the calls on knot vectors over bytes
+pub mod counted_exports; // the counted conversions over bytes

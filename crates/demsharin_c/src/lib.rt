@@ -2,7 +2,7 @@
 // passes on what it is given, and promises what the call does.
 #![tactic(auto)]
 
-pub mod counted; // the counted conversions
+pub mod counted_exports; // the counted conversions
 pub mod exports; // every call of 01, and 02's conversions
-pub mod files; // the calls on table files
-pub mod knots; // the calls on knot vectors
+pub mod file_exports; // the calls on table files
+pub mod knot_exports; // the calls on knot vectors

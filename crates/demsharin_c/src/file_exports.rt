@@ -7,19 +7,19 @@ ghost use Rattle.demsharin.specs.Exports.{Exported, file_room, row_places};
 pub extern "C" fn demsharin_write_table(table: &[u8], out: &mut [u8]) -> u32
     ensures { Exported out.old (files.write_table table.now (file_room out.old)) result out.new }
 {
-    demsharin::files::demsharin_write_table(table, out)
+    demsharin::file_exports::demsharin_write_table(table, out)
 }
 
 #[unsafe(no_mangle)]
 pub extern "C" fn demsharin_read_table(file: &[u8], out: &mut [u8]) -> u32
     ensures { Exported out.old (files.read_table file.now (row_places out.old)) result out.new }
 {
-    demsharin::files::demsharin_read_table(file, out)
+    demsharin::file_exports::demsharin_read_table(file, out)
 }
 
 #[unsafe(no_mangle)]
 pub extern "C" fn demsharin_salvage_table(file: &[u8], out: &mut [u8]) -> u32
     ensures { Exported out.old (files.salvage_table file.now (row_places out.old)) result out.new }
 {
-    demsharin::files::demsharin_salvage_table(file, out)
+    demsharin::file_exports::demsharin_salvage_table(file, out)
 }

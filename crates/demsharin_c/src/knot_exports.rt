@@ -11,7 +11,7 @@ pub extern "C" fn demsharin_knot_vector(
 ) -> u32
     ensures { Exported out.old (spec.knot_vector table.now knots.now rule.now) result out.new }
 {
-    demsharin::knots::demsharin_knot_vector(table, knots, rule, out)
+    demsharin::knot_exports::demsharin_knot_vector(table, knots, rule, out)
 }
 
 #[unsafe(no_mangle)]
@@ -23,5 +23,5 @@ pub extern "C" fn demsharin_span_quotient(
 ) -> u32
     ensures { Exported out.old (spec.span_quotient table.now knots.now rule.now) result out.new }
 {
-    demsharin::knots::demsharin_span_quotient(table, knots, rule, out)
+    demsharin::knot_exports::demsharin_span_quotient(table, knots, rule, out)
 }

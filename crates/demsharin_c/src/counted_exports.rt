@@ -11,7 +11,7 @@ pub extern "C" fn demsharin_convert_to_counted(
 ) -> u32
     ensures { Exported out.old (spec.convert_to_counted table.now quantity.now target.now) result out.new }
 {
-    demsharin::counted::demsharin_convert_to_counted(table, quantity, target, out)
+    demsharin::counted_exports::demsharin_convert_to_counted(table, quantity, target, out)
 }
 
 #[unsafe(no_mangle)]
@@ -23,5 +23,5 @@ pub extern "C" fn demsharin_convert_merged_counted(
 ) -> u32
     ensures { Exported out.old (spec.convert_merged_counted table.now quantity.now target.now) result out.new }
 {
-    demsharin::counted::demsharin_convert_merged_counted(table, quantity, target, out)
+    demsharin::counted_exports::demsharin_convert_merged_counted(table, quantity, target, out)
 }
