@@ -75,7 +75,7 @@ example() {
 
 # The C program; then, as C++, that the archive has all of the header's functions.
 c() {
-    local linked=("-I$root/include" "-L$archive" -ldemsharin -lm) names
+    local linked=("-I$root/include" "-L$archive" -ldemsharin) names
     cc_x86 "$here/examples/convert.c" "$build/convert" -std=c11 -Wall -Wextra -Wpedantic -Werror "${linked[@]}"
     run_x86 "$build/convert"
     names=$(sed -n 's/^uint32_t \(demsharin_[a-z_]*\)(.*/    (const void *)\1,/p' "$root/include/demsharin.h")
