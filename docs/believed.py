@@ -18,7 +18,7 @@ CALLS = ['lentcalls', 'lentfiles', 'lentknots', 'demsharin']
 BYTES = ['wire', 'replies', 'stream', 'inflow']
 THEOREMS = ['promises', 'filepromises', 'halves', 'cancels', 'knotpromises', 'countpromises']
 
-USE = re.compile(r'^\s*(?:ghost )?use\s+Rattle·(\w+)(?:·specs)?\.specs\.([A-Z]\w*)(?:\.\{(.*)\})?(?:\s+as\s+([^\s;]+))?;?\s*$')
+USE = re.compile(r'^\s*(?:ghost )?use\s+Rattle\.(\w+)\.specs\.([A-Z]\w*)(?:\.\{(.*)\})?(?:\s+as\s+([^\s;]+))?;?\s*$')
 
 
 def tokens(text):
@@ -109,7 +109,7 @@ def main():
         for crate in crates:
             for path in sorted(HOME.glob(f'crates/{crate}/src/**/*.rt')):
                 text = path.read_text()
-                for fn in re.finditer(r'fn (\w+)\(.*?\n\{', text, re.S):
+                for fn in re.finditer(r'fn (\w+)(?:<[^>]*>)?\(.*?\n\{', text, re.S):
                     reach(fn.group(0).partition('ensures')[2], *imports(text), f'{crate}::{fn.group(1)}', mark)
     for path in [p for crate in THEOREMS for p in sorted(HOME.glob(f'crates/{crate}/proofs/*.antt'))]:
         text, crate = path.read_text(), path.parts[-3]
