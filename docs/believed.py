@@ -18,7 +18,7 @@ CALLS = ['lentcalls', 'lentfiles', 'lentknots', 'demsharin']
 BYTES = ['wire', 'replies', 'stream', 'inflow']
 THEOREMS = ['promises', 'filepromises', 'halves', 'cancels', 'knotpromises', 'countpromises']
 
-USE = re.compile(r'^\s*(?:ghost )?use\s+Rattle\.(\w+)\.specs\.([A-Z]\w*)(?:\.\{(.*)\})?(?:\s+as\s+([^\s;]+))?;?\s*$')
+USE = re.compile(r'^\s*(?:ghost |pub )?use\s+Rattle\.(\w+)\.specs\.([A-Z]\w*)(?:\.\{(.*)\})?(?:\s+as\s+([^\s;]+))?;?\s*$')
 
 
 def tokens(text):
@@ -54,7 +54,7 @@ def definitions(text, crate, module):
     found, now, outer = {}, None, []
     for line in text.splitlines():
         s = line.strip()
-        if not s or s.startswith(('--', 'use ', 'pub mod')):
+        if not s or s.startswith(('--', 'use ', 'pub use ', 'pub mod')):
             continue
         indent = len(line) - len(line.lstrip())
         outer = [o for o in outer if o[0] < indent]

@@ -6,8 +6,8 @@ use native.Mathlib.Omega.{arith}
 use lib.ListN.{length, take, length-append}
 use lib.Seq.{sets}
 use Rattle.exponents.specs.Words.{All}
-use Rattle.exponents.specs.Outcome.{ROOM, number, given}
-use Rattle.exponents.proofs.Numbers.{Answers, struct_answers, struct_refuses}
+use Rattle.exponents.specs.Outcome.{Refusal, ROOM, Outcome, Ok, Err}
+use Rattle.exponents.proofs.Numbers.{From, apply_answers}
 use Rattle.units.specs.declared.Row.{Row}
 use Rattle.units.specs.declared.Rows.{Rows}
 use Rattle.lent.specs.Lent.{lent_rows_lem}
@@ -16,11 +16,9 @@ use Rattle.wire.specs.Records.{row_bytes}
 use Rattle.wire.proofs.Digits.{length-bytes_of}
 use Rattle.wire.proofs.Stored.{length-row_bytes, sets_number}
 use Rattle.replies.specs.Held.{Replied}
-use Rattle.replies.specs.declared.Reply.{Reply}
-use Rattle.replies.proofs.Sent.{Says, map_passed, map-sent, no_room, written}
+use Rattle.replies.proofs.Sent.{refusal_sent, map-sent, no_room, written}
 use Rattle.tablefiles.specs.Calls as files
 use Rattle.tablefiles.specs.Held.{read_of, salvaged_of}
-use Rattle.tablefiles.specs.declared.Read.{Read}
 use Rattle.tablefiles.specs.declared.Salvaged.{Salvaged}
 use Rattle.tablefiles.proofs.Admissions.{rows_back, rows-length}
 use Rattle.tablefiles.proofs.Sized.{read_few, read_full, kept_full}
@@ -38,15 +36,15 @@ pub rows_sized : (other : ℕ) (rs : List Row) → Full rs → length (rows_repl
 unfolding rows_reply
 rows_sized other rs h = simp (length-append, length-bytes_of) (omega (arith, run_sized rs h))
 
-module _ (rows : Rows) (n other : ℕ) (few : n ≤ 128) (rs : List Row) (e : rows ≡ lent_rows_lem rs) (m : n ≡ length rs) (full : Full rs) (room : List ℕ) (r : Reply) where
+module _ (rows : Rows) (n other : ℕ) (few : n ≤ 128) (rs : List Row) (e : rows ≡ lent_rows_lem rs) (m : n ≡ length rs) (full : Full rs) (room : List ℕ) where
   size : length (rows_reply other rs) ≡ 8 + n * 176
   size = rows_sized other rs full ∙ ap (λ k. 8 + k * 176) (sym m)
 
   places : take n rows.at ≡ rs
   places = ap (λ (x : Rows). take n x.at) e ∙ ap (λ k. take k (lent_rows_lem rs).at) (m ∙ sym (rows-length rs)) ∙ rows_back rs (omega arith)
 
-  pub rows_refused : length room < 8 + n * 176 → Says (number ROOM) 0 r → Replied room (given (rows_reply other rs)) r room
-  rows_refused h s = no_room room (given (rows_reply other rs)) r (rows_reply other rs) refl (8 + n * 176) size h s
+  pub rows_refused : length room < 8 + n * 176 → Replied room (Ok (rows_reply other rs)) (Err ROOM) room
+  rows_refused h = no_room room (Ok (rows_reply other rs)) (Err ROOM) (rows_reply other rs) refl (8 + n * 176) size h refl
 
   stored : (l₁ l₂ l₃ : List ℕ) → l₁ ≡ sets room 0 (bytes_of 4 n) → l₂ ≡ sets l₁ 4 (bytes_of 4 other) → l₃ ≡ sets l₂ 8 (run_bytes row_bytes (take n rows.at)) → l₃ ≡ sets room 0 (rows_reply other rs)
   unfolding rows_reply
@@ -60,36 +58,34 @@ module _ (rows : Rows) (n other : ℕ) (few : n ≤ 128) (rs : List Row) (e : ro
       ∙ ap (λ k. sets room 0 (bytes_of 4 k ++ (bytes_of 4 other ++ run_bytes row_bytes rs))) m
 
   pub rows_written : (l₁ l₂ l₃ : List ℕ) → l₁ ≡ sets room 0 (bytes_of 4 n) → l₂ ≡ sets l₁ 4 (bytes_of 4 other) → l₃ ≡ sets l₂ 8 (run_bytes row_bytes (take n rows.at))
-      → 8 + n * 176 ≤ length room → Says 0 (8 + n * 176) r → Replied room (given (rows_reply other rs)) r l₃
-  rows_written l₁ l₂ l₃ a b c h s = written room (given (rows_reply other rs)) r (rows_reply other rs) refl (8 + n * 176) size l₃ h (stored l₁ l₂ l₃ a b c) s
+      → 8 + n * 176 ≤ length room → Replied room (Ok (rows_reply other rs)) (Ok (8 + n * 176)) l₃
+  rows_written l₁ l₂ l₃ a b c h = written room (Ok (rows_reply other rs)) (Ok (8 + n * 176)) (rows_reply other rs) refl (8 + n * 176) size l₃ h (stored l₁ l₂ l₃ a b c) refl
 
 -- ---- rows that were read
 
-module _ (places : ℕ) (f : List ℕ) (d : Read) (e : d ≡ read_of (files.read_table places f)) (room : List ℕ) (r : Reply) where
-  pub read_refused : (d.told.refusal ≡ 0 → ⊥) → Says d.told.refusal 0 r → Replied room (read_table f places) r room
+module _ (places : ℕ) (f : List ℕ) (room : List ℕ) where
+  pub read_refused : (w : Refusal) → Err w ≡ read_of (files.read_table places f) → (r : Outcome ℕ) → r ≡ Err w → Replied room (read_table f places) r room
   unfolding read_table
-  read_refused h s = map_passed (rows_reply 0) room (files.read_table places f) r d.told.refusal (struct_refuses read_of (λ x. x.told.refusal) (λ a. refl) (λ w. refl) (files.read_table places f) d e h) s
+  read_refused w e r s = refusal_sent lent_rows_lem (rows_reply 0) room (files.read_table places f) r w e s
 
-  module _ (h : d.told.refusal ≡ 0) where
-    given_rows : Answers (files.read_table places f)
-    given_rows = struct_answers read_of (λ x. x.told.refusal) (λ a. refl) (λ w. refl) (files.read_table places f) d e h
+  module _ (rows : Rows) (e : Ok rows ≡ read_of (files.read_table places f)) where
+    found : From lent_rows_lem (files.read_table places f) rows
+    found = apply_answers lent_rows_lem (files.read_table places f) rows (sym e)
 
-    told_is : d ≡ read_of (given given_rows.answer)
-    told_is = e ∙ ap read_of given_rows.is
+    counted : rows.len ≡ length found.answer
+    counted = ap (λ (x : Rows). x.len) (sym found.made) ∙ rows-length found.answer
 
-    pub read_short : d.told.len ≤ 128
-    read_short = omega (arith, ap (λ (x : Read). x.told.len) told_is, (read_few places f given_rows.answer given_rows.is).0)
+    pub read_short : rows.len ≤ 128
+    read_short = omega (arith, counted, (read_few places f found.answer found.is).0)
 
-    pub read_sent : (end : List ℕ) → ((rs : List Row) → d.rows ≡ lent_rows_lem rs → d.told.len ≡ length rs → Full rs → Replied room (given (rows_reply 0 rs)) r end) → Replied room (read_table f places) r end
+    pub read_sent : (r : Outcome ℕ) (end : List ℕ) → ((rs : List Row) → rows ≡ lent_rows_lem rs → rows.len ≡ length rs → Full rs → Replied room (Ok (rows_reply 0 rs)) r end) → Replied room (read_table f places) r end
     unfolding read_table
-    read_sent end told =
-        map-sent (rows_reply 0) room (files.read_table places f) r given_rows.answer end given_rows.is
-        (told given_rows.answer (ap (λ (x : Read). x.rows) told_is) (ap (λ (x : Read). x.told.len) told_is) (read_full places f given_rows.answer given_rows.is))
+    read_sent r end told = map-sent (rows_reply 0) room (files.read_table places f) r found.answer end found.is (told found.answer (sym found.made) counted (read_full places f found.answer found.is))
 
 -- ---- rows that were salvaged
-pub salvage-sent : (places : ℕ) (f : List ℕ) (d : Salvaged) → d ≡ salvaged_of (files.salvage places f) → (room : List ℕ) (r : Reply) (end : List ℕ)
-    → ((rs : List Row) → d.rows ≡ lent_rows_lem rs → d.told.rows ≡ length rs → Full rs → Replied room (given (rows_reply d.told.byte rs)) r end) → Replied room (salvage_table f places) r end
+pub salvage-sent : (places : ℕ) (f : List ℕ) (d : Salvaged) → d ≡ salvaged_of (files.salvage places f) → (room : List ℕ) (r : Outcome ℕ) (end : List ℕ)
+    → ((rs : List Row) → d.rows ≡ lent_rows_lem rs → d.told.rows ≡ length rs → Full rs → Replied room (Ok (rows_reply d.told.byte rs)) r end) → Replied room (salvage_table f places) r end
 unfolding salvage_table
 salvage-sent places f d e room r end told =
-    subst (λ b. Replied room (given (rows_reply b (files.salvage places f).0)) r end) (ap (λ (x : Salvaged). x.told.byte) e)
+    subst (λ b. Replied room (Ok (rows_reply b (files.salvage places f).0)) r end) (ap (λ (x : Salvaged). x.told.byte) e)
     (told (files.salvage places f).0 (ap (λ (x : Salvaged). x.rows) e) (ap (λ (x : Salvaged). x.told.rows) e) (kept_full places f))

@@ -2,15 +2,14 @@
 #![tactic(auto)]
 
 ghost use Rattle.std.specs.Prelude.{◌≡◌, List, ◌≤◌, length};
-ghost use Rattle.exponents.specs.Outcome.{given};
+ghost use Rattle.exponents.specs.Outcome.{Ok};
 ghost use Rattle.exponents.specs.Words.{All};
 ghost use Rattle.units.specs.declared.Row.{Row as Rowᵛ};
 ghost use Rattle.lent.specs.Lent.{lent_rows_lem};
 ghost use Rattle.replies.specs.Held.{Replied};
-ghost use Rattle.tablefiles.specs.Calls.{least};
 ghost use Rattle.askfiles.specs.Calls as spec;
 
-use exponents::refusals::ROOM;
+use exponents::refusals::Refusal;
 use replies::Reply;
 use units::Rows;
 use wire::numbers::store;
@@ -21,49 +20,39 @@ pub fn write_table(table: &[u8], room: usize, out: &mut [u8]) -> Reply
 {
     let t = wiretables::table(table);
     let len = out.len();
-    let from = tablefiles::least(8, len);
-    let end = from + tablefiles::least(room, len - from);
-    let r = tablefiles::write_table(t, &mut out[from..end]);
-    if r.refusal != 0 {
-        return replies::refused(r.refusal);
-    }
-    store(out, 0, 4, r.len as u64);
+    let from = len.min(8);
+    let end = from + room.min(len - from);
+    let n = tablefiles::write_table(t, &mut out[from..end])?;
+    store(out, 0, 4, n as u64);
     store(out, 4, 4, 0);
-    replies::answered(8 + r.len)
+    Ok(8 + n)
 }
 
 // The first n rows behind two numbers, their own and another.
 fn rows_behind(rows: Rows, n: usize, other: usize, out: &mut [u8]) -> Reply
     requires { n ≤ 128 }
-    ensures { (rs : List Rowᵛ) → rows ≡ lent_rows_lem rs → n ≡ length rs → All (λ r. length r.def ≡ 8) rs → Replied out.old (given (spec.rows_reply other rs)) result out.new }
+    ensures { (rs : List Rowᵛ) → rows ≡ lent_rows_lem rs → n ≡ length rs → All (λ r. length r.def ≡ 8) rs → Replied out.old (Ok (spec.rows_reply other rs)) result out.new }
 {
     let len = 8 + n * 176;
     if out.len() < len {
-        return replies::refused(ROOM);
+        return Err(Refusal::Room);
     }
     store(out, 0, 4, n as u64);
     store(out, 4, 4, other as u64);
     wiretables::write_rows(out, 8, rows, n);
-    replies::answered(len)
+    Ok(len)
 }
 
 pub fn read_table(file: &[u8], places: usize, out: &mut [u8]) -> Reply
     ensures { Replied out.old (spec.read_table file.now places) result out.new }
 {
-    let d = tablefiles::read_table(file, places);
-    let rows = d.rows;
-    let told = d.told;
-    if told.refusal != 0 {
-        return replies::refused(told.refusal);
-    }
-    rows_behind(rows, told.len, 0, out)
+    let rows = tablefiles::read_table(file, places)?;
+    rows_behind(rows, rows.len, 0, out)
 }
 
 pub fn salvage_table(file: &[u8], places: usize, out: &mut [u8]) -> Reply
     ensures { Replied out.old (spec.salvage_table file.now places) result out.new }
 {
     let d = tablefiles::salvage_table(file, places);
-    let rows = d.rows;
-    let told = d.told;
-    rows_behind(rows, told.rows, told.byte, out)
+    rows_behind(d.rows, d.told.rows, d.told.byte, out)
 }

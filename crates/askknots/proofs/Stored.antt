@@ -1,5 +1,5 @@
 -- Runs stored as distinct values, one after the other, and behind their number.
-use mathlib.Core.Path.{◌≡◌, refl, sym, ap, ◌∙◌}
+use mathlib.Core.Path.{◌≡◌, sym, ap, ◌∙◌}
 use mathlib.Core.List.{List, ◌++◌}
 use Prim.Native.Nat.{ℕ, ◌+◌, ◌*◌, ◌≤◌, ◌<◌}
 use native.Mathlib.Nat.{add_assoc}
@@ -7,13 +7,9 @@ use native.Mathlib.Omega.{arith}
 use lib.Ieee.{Float, binary64, nan, to_bits}
 use lib.ListN.{length, get_or, take, drop, length-append, get_or-map}
 use lib.Seq.{sets, get_or-take}
-use Rattle.exponents.specs.Outcome.{ROOM, number, given}
 use Rattle.wire.specs.Bytes.{bytes_of, run_bytes}
 use Rattle.wire.proofs.Digits.{length-bytes_of}
 use Rattle.wire.proofs.Stored.{length_run_bytes, write_turn, write_end, sets_number}
-use Rattle.replies.specs.Held.{Replied}
-use Rattle.replies.specs.declared.Reply.{Reply}
-use Rattle.replies.proofs.Sent.{Says, no_room, written}
 use Rattle.knotruns.specs.Runs.{Run, run, firsts, multiplicities}
 use Rattle.askknots.specs.Records.{distinct_bytes, vector_bytes}
 
@@ -39,8 +35,8 @@ module _ (n : ℕ) (fs : List Float) (ks : List ℕ) (rs : List Run) (m : n ≡ 
   abbrev pub Left : List ℕ → ℕ → List ℕ → ℕ → Type 0
   Left out₀ at out i = sets out (at + i * 16) (run_bytes distinct_bytes (drop i rs)) ≡ sets out₀ at (run_bytes distinct_bytes rs)
 
-  pub left-all : (out : List ℕ) (at : ℕ) → Left out at out 0
-  left-all out at = let e : at + 0 * 16 ≡ at = omega arith in ap (λ j. sets out j (run_bytes distinct_bytes rs)) e
+  pub left_all : (out : List ℕ) (at : ℕ) → Left out at out 0
+  left_all out at = let e : at + 0 * 16 ≡ at = omega arith in ap (λ j. sets out j (run_bytes distinct_bytes rs)) e
 
   pub left_on : (out₀ : List ℕ) (at : ℕ) (out out' : List ℕ) (i : ℕ) → i < n → Left out₀ at out i → out' ≡ sets out (at + i * 16) (distinct_bytes (run (get_or fs i nan) (get_or ks i 0))) → Left out₀ at out' (i + 1)
   left_on out₀ at out out' i h l e =
@@ -56,22 +52,12 @@ pub vector_sized : (rs : List Run) → length (vector_bytes rs) ≡ 8 + length r
 unfolding vector_bytes
 vector_sized rs = simp (length-append, length-bytes_of) (omega (arith, length_run_bytes distinct_bytes 16 distinct_sized rs))
 
-module _ (n : ℕ) (rs : List Run) (m : n ≡ length rs) (room : List ℕ) (r : Reply) where
-  size : length (vector_bytes rs) ≡ 8 + n * 16
-  size = vector_sized rs ∙ ap (λ k. 8 + k * 16) (sym m)
-
-  pub vector-short : length room < 8 + n * 16 → Says (number ROOM) 0 r → Replied room (given (vector_bytes rs)) r room
-  vector-short h s = no_room room (given (vector_bytes rs)) r (vector_bytes rs) refl (8 + n * 16) size h s
-
-  stored : (l₁ l₂ l₃ : List ℕ) → l₁ ≡ sets room 0 (bytes_of 4 n) → l₂ ≡ sets l₁ 4 (bytes_of 4 0) → l₃ ≡ sets l₂ 8 (run_bytes distinct_bytes rs) → l₃ ≡ sets room 0 (vector_bytes rs)
-  unfolding vector_bytes
-  stored l₁ l₂ l₃ a b c =
-      c
-      ∙ ap (λ l. sets l 8 (run_bytes distinct_bytes rs)) b
-      ∙ sym (sets_number 4 0 (run_bytes distinct_bytes rs) l₁ 4)
-      ∙ ap (λ l. sets l 4 (bytes_of 4 0 ++ run_bytes distinct_bytes rs)) a
-      ∙ sym (sets_number 4 n (bytes_of 4 0 ++ run_bytes distinct_bytes rs) room 0)
-      ∙ ap (λ k. sets room 0 (bytes_of 4 k ++ (bytes_of 4 0 ++ run_bytes distinct_bytes rs))) m
-
-  pub vector_written : (l₁ l₂ l₃ : List ℕ) → l₁ ≡ sets room 0 (bytes_of 4 n) → l₂ ≡ sets l₁ 4 (bytes_of 4 0) → l₃ ≡ sets l₂ 8 (run_bytes distinct_bytes rs) → 8 + n * 16 ≤ length room → Says 0 (8 + n * 16) r → Replied room (given (vector_bytes rs)) r l₃
-  vector_written l₁ l₂ l₃ a b c h s = written room (given (vector_bytes rs)) r (vector_bytes rs) refl (8 + n * 16) size l₃ h (stored l₁ l₂ l₃ a b c) s
+pub stored : (n : ℕ) (rs : List Run) (room l₁ l₂ l₃ : List ℕ) → n ≡ length rs → l₁ ≡ sets room 0 (bytes_of 4 n) → l₂ ≡ sets l₁ 4 (bytes_of 4 0) → l₃ ≡ sets l₂ 8 (run_bytes distinct_bytes rs) → l₃ ≡ sets room 0 (vector_bytes rs)
+unfolding vector_bytes
+stored n rs room l₁ l₂ l₃ m a b c =
+    c
+    ∙ ap (λ l. sets l 8 (run_bytes distinct_bytes rs)) b
+    ∙ sym (sets_number 4 0 (run_bytes distinct_bytes rs) l₁ 4)
+    ∙ ap (λ l. sets l 4 (bytes_of 4 0 ++ run_bytes distinct_bytes rs)) a
+    ∙ sym (sets_number 4 n (bytes_of 4 0 ++ run_bytes distinct_bytes rs) room 0)
+    ∙ ap (λ k. sets room 0 (bytes_of 4 k ++ (bytes_of 4 0 ++ run_bytes distinct_bytes rs))) m

@@ -1,26 +1,25 @@
 // The calls on knot vectors from bytes to bytes: the table, the knots and the rule as bytes, the answer into lent room.
 #![tactic(auto)]
 
-ghost use Rattle.std.specs.Prelude.{◌≡◌, List, ◌+◌, ◌*◌, ◌≤◌, Float, length, take};
+ghost use Rattle.std.specs.Prelude.{◌≡◌, List, ◌+◌, ◌*◌, ◌≤◌, length, take};
 ghost use Rattle.std.proofs.lemmas.List.Edits.{sets};
-ghost use Rattle.exponents.specs.Outcome.{Outcome, given, apply};
+ghost use Rattle.exponents.specs.Outcome.{Ok};
 ghost use Rattle.wire.specs.Bytes.{run_bytes};
 ghost use Rattle.replies.specs.Held.{Replied};
-ghost use Rattle.replies.specs.Replies.{value_bytes};
 ghost use Rattle.knotruns.specs.Runs.{Run, run, firsts as firstsOf, multiplicities};
-ghost use Rattle.knotruns.specs.Held.{quotient_of};
 ghost use Rattle.askknots.specs.Records.{rule_at, bad_rule, rule_from, span_from, distinct_bytes, vector_bytes};
 ghost use Rattle.askknots.specs.Calls as spec;
 
-use exponents::refusals::ROOM;
-use knotruns::{Quotient, Told};
+use exponents::refusals::Refusal;
 use knots::{Rule, Span};
 use replies::Reply;
+use tables::pages::Columns;
 use wire::numbers::{read_u32, read_u64, store};
 use wire::reading;
 
 // ---- the arguments
 
+#[tactic(auto, unfolding(crate::specs::Records::rule_at))]
 fn read_rule(s: &[u8]) -> Rule
     requires { 336 ≤ length s.now }
     ensures { result ≡ rule_at s.now 0 }
@@ -57,6 +56,7 @@ fn rule_of(s: &[u8]) -> Rule
     bad_rule()
 }
 
+#[tactic(auto, unfolding(crate::specs::Records::span_at, crate::specs::Records::span_from))]
 fn span_of(s: &[u8]) -> Span
     ensures { result ≡ span_from s.now }
 {
@@ -76,6 +76,7 @@ fn span_of(s: &[u8]) -> Span
 
 // ---- the answers
 
+#[tactic(auto, using(crate::proofs::Stored::distinct_written))]
 fn put_run(out: &mut [u8], at: usize, x: f64, k: u32)
     requires { at + 16 ≤ length out.old }
     ensures { (out.new ≡ sets out.old at (distinct_bytes (run x k))) × (length out.new ≡ length out.old) }
@@ -86,39 +87,30 @@ fn put_run(out: &mut [u8], at: usize, x: f64, k: u32)
 }
 
 // n distinct values with their multiplicities.
+#[tactic(auto, using(crate::proofs::Stored::left_all, crate::proofs::Stored::left_on, crate::proofs::Stored::left_none))]
 fn put_runs(out: &mut [u8], at: usize, firsts: &[f64], times: &[u32], n: usize)
     requires { (n ≤ 512) × (n ≤ length firsts.now) × (n ≤ length times.now) × (at + n * 16 ≤ length out.old) }
     ensures { (length out.new ≡ length out.old) × ((rs : List Run) → n ≡ length rs → take n firsts.now ≡ firstsOf rs → take n times.now ≡ multiplicities rs → out.new ≡ sets out.old at (run_bytes distinct_bytes rs)) }
 {
-    let mut i: usize = 0;
-    while i < n {
+    for i in 0..n {
         put_run(out, at + i * 16, firsts[i], times[i]);
-        i += 1;
     }
 }
 
 // The same behind their number.
+#[tactic(auto, using(replies::proofs::Sent::too_short, replies::proofs::Sent::fits_in, replies::proofs::Sent::left_by, crate::proofs::Stored::vector_sized, crate::proofs::Stored::stored))]
 fn vector(firsts: &[f64], times: &[u32], n: usize, out: &mut [u8]) -> Reply
     requires { (n ≤ 512) × (n ≤ length firsts.now) × (n ≤ length times.now) }
-    ensures { (rs : List Run) → n ≡ length rs → take n firsts.now ≡ firstsOf rs → take n times.now ≡ multiplicities rs → Replied out.old (given (vector_bytes rs)) result out.new }
+    ensures { (rs : List Run) → n ≡ length rs → take n firsts.now ≡ firstsOf rs → take n times.now ≡ multiplicities rs → Replied out.old (Ok (vector_bytes rs)) result out.new }
 {
     let len = 8 + n * 16;
     if out.len() < len {
-        return replies::refused(ROOM);
+        return Err(Refusal::Room);
     }
     store(out, 0, 4, n as u64);
     store(out, 4, 4, 0);
     put_runs(out, 8, firsts, times, n);
-    replies::answered(len)
-}
-
-fn quotient(q: Quotient, out: &mut [u8]) -> Reply
-    ensures { (o : Outcome Float) → q ≡ quotient_of o → Replied out.old (apply value_bytes o) result out.new }
-{
-    match q {
-        Quotient::Value(x) => replies::value(x, out),
-        Quotient::Refused(n) => replies::refused(n),
-    }
+    Ok(len)
 }
 
 // ---- the calls
@@ -127,56 +119,22 @@ pub fn knot_vector(table: &[u8], knots: &[u8], rule: &[u8], out: &mut [u8]) -> R
     ensures { Replied out.old (spec.knot_vector table.now knots.now rule.now) result out.new }
 {
     let u = rule_of(rule);
-    let mut nums = [0i32; 2048];
-    let mut dens = [1u32; 2048];
-    let mut scales = [1.0; 128];
-    let mut ranks = [0u16; 128];
-    let mut based = [false; 128];
+    let mut columns = Columns::blank();
+    // Kept: the call over knots takes two rooms, and its contract speaks of each.
     let mut firsts = [0.0; 512];
     let mut times = [0u32; 512];
-    let t = intake::admit_bytes(
-        table,
-        &mut nums,
-        &mut dens,
-        &mut scales,
-        &mut ranks,
-        &mut based,
-    );
-    let told = knots::knot_vector_over(
-        t,
-        &nums,
-        &dens,
-        &scales,
-        &ranks,
-        &based,
-        knots,
-        u,
-        &mut firsts,
-        &mut times,
-    );
-    match told {
-        Told::Refused(n) => replies::refused(n),
-        Told::Number(n) => vector(&firsts, &times, n, out),
-    }
+    let t = intake::admit_bytes(table, &mut columns);
+    let n = knots::knot_vector_over(t, &columns, knots, u, &mut firsts, &mut times)?;
+    vector(&firsts, &times, n, out)
 }
 
+#[tactic(auto, unfolding(crate::specs::Calls::span_quotient))]
 pub fn span_quotient(table: &[u8], knots: &[u8], rule: &[u8], out: &mut [u8]) -> Reply
     ensures { Replied out.old (spec.span_quotient table.now knots.now rule.now) result out.new }
 {
     let a = span_of(rule);
-    let mut nums = [0i32; 2048];
-    let mut dens = [1u32; 2048];
-    let mut scales = [1.0; 128];
-    let mut ranks = [0u16; 128];
-    let mut based = [false; 128];
-    let t = intake::admit_bytes(
-        table,
-        &mut nums,
-        &mut dens,
-        &mut scales,
-        &mut ranks,
-        &mut based,
-    );
-    let q = knots::span_quotient_over(t, &nums, &dens, &scales, &ranks, &based, knots, a);
-    quotient(q, out)
+    let mut columns = Columns::blank();
+    let t = intake::admit_bytes(table, &mut columns);
+    let q = knots::span_quotient_over(t, &columns, knots, a);
+    replies::factor(q, out)
 }

@@ -4,7 +4,7 @@ use mathlib.Core.List.{List, [], ◌∷◌, ◌++◌}
 use Prim.Native.Nat.{ℕ, suc, ◌+◌, ◌<◌, ◌≤◌}
 use native.Mathlib.Omega.{arith}
 use lib.ListN.{length, length-append}
-use Rattle.exponents.specs.Outcome.{Refusal, Outcome, given, refused}
+use Rattle.exponents.specs.Outcome.{Refusal, Outcome, Ok, Err}
 use Rattle.units.specs.declared.Row.{Row}
 use Rattle.tables.specs.declared.Slot.{Slot}
 use Rattle.tables.specs.Rows.{Facts, row_facts, Admission, admitted, stopped, admit_on, admit_from, slots}
@@ -16,8 +16,8 @@ pub data Counts (m n : ℕ) : Admission → Type 0 where
   part : {w : Refusal} {ks : List Facts} → m ≤ length ks → length ks < m + n → Counts m n (stopped w ks)
 
 counts_on : (m n : ℕ) (o : Outcome Facts) (ks : List Facts) (next : Facts → Admission) → length ks ≡ m → ((k : Facts) → Counts (suc m) n (next k)) → Counts m (suc n) (admit_on o ks next)
-counts_on m n (refused w) ks next e h = part {ks = ks} (omega arith) (omega arith)
-counts_on m n (given k) ks next e h = go (next k) (h k)
+counts_on m n (Err w) ks next e h = part {ks = ks} (omega arith) (omega arith)
+counts_on m n (Ok k) ks next e h = go (next k) (h k)
   where
     go : (a : Admission) → Counts (suc m) n a → Counts m (suc n) a
     go a (all {ks = l} p) = all {ks = l} (omega arith)

@@ -3,12 +3,12 @@ use mathlib.Core.Path.{◌≡◌, refl, subst}
 use mathlib.Core.Bool.{Bool, true, false}
 use Prim.Native.Nat.{ℕ}
 use native.Mathlib.Omega.{arith}
-use Rattle.exponents.specs.Outcome.{Refusal, Outcome, given, refused, unless, apply, bind}
+use Rattle.exponents.specs.Outcome.{Refusal, Outcome, Ok, Err, unless, apply, bind}
 use Rattle.exponents.proofs.Holds.{Holds, moot, held}
 
 pub data Matched {A B : Type 0} (R : A → B → Type 0) : Outcome A → Outcome B → Type 0 where
-  answers : {a : A} {b : B} → R a b → Matched R (given a) (given b)
-  refuses : {r : Refusal} → Matched R (refused r) (refused r)
+  answers : {a : A} {b : B} → R a b → Matched R (Ok a) (Ok b)
+  refuses : {r : Refusal} → Matched R (Err r) (Err r)
 
 -- that an outcome answers, or its refusal
 abbrev pub mute : {A : Type 0} → Outcome A → Outcome (Unit {0})
@@ -30,12 +30,12 @@ module _ {A B : Type 0} {R : A → B → Type 0} where
   matched_bind f g refuses h = refuses
 
 pub matched_same : {A : Type 0} (o : Outcome A) → Matched (λ a b. a ≡ b) o o
-matched_same (given a) = answers refl
-matched_same (refused r) = refuses
+matched_same (Ok a) = answers refl
+matched_same (Err r) = refuses
 
 module _ {A B : Type 0} {P : A → Type 0} {Q : B → Type 0} where
   pub matched_by : {o : Outcome A} {p : Outcome B} → Holds P o → Holds Q p → mute o ≡ mute p → Matched (λ a b. P a × Q b) o p
-  matched_by (moot {r = r}) (moot {r = s}) e = let z : r ≡ s = cc in subst (λ t. Matched (λ a b. P a × Q b) (refused r) (refused t)) z refuses
+  matched_by (moot {r = r}) (moot {r = s}) e = let z : r ≡ s = cc in subst (λ t. Matched (λ a b. P a × Q b) (Err r) (Err t)) z refuses
   matched_by moot (held h) e = absurd (let z : ◌≡◌ {A = ℕ} 0 1 = cc in omega arith)
   matched_by (held h) moot e = absurd (let z : ◌≡◌ {A = ℕ} 0 1 = cc in omega arith)
   matched_by (held h) (held k) e = answers (h, k)

@@ -8,7 +8,7 @@ use lib.Dec.{eqb}
 use lib.Ieee.{mul, binary64}
 use lib.ListN.{length, get_or, length-map, length-append, get_or-map}
 use lib.Seq.{ext_get_or}
-use Rattle.exponents.specs.Outcome.{TABLE, SHAPE, Outcome, given, each, apply}
+use Rattle.exponents.specs.Outcome.{TABLE, SHAPE, Outcome, Ok, each, apply}
 use Rattle.exponents.specs.Fractions.{nought}
 use Rattle.exponents.specs.declared.Exponent.{Exponent}
 use Rattle.exponents.proofs.Each.{each_map}
@@ -62,7 +62,7 @@ Has ss vs js = map (λ k. k.exps) js ≡ map (λ v. map v ss) vs
 
 -- those of a row's own, with the definition l, after i rows
 abbrev own_at : Kind → List (Slot → Exponent) → ℕ → List Factor → Slot → Outcome Exponent
-own_at Base vs i l s = given (self_exp i s)
+own_at Base vs i l s = Ok (self_exp i s)
 own_at (Derived f) vs i l s = base_at l (λ q. get_or vs q none s)
 
 has_at : (ss : List Slot) (vs : List (Slot → Exponent)) (q j : ℕ) → j < length ss → get_or (get_or (map (λ v. map v ss) vs) q []) j nought ≡ get_or vs q none (get_or ss j no_slot)
@@ -70,7 +70,7 @@ has_at ss [] q j h = refl
 has_at ss (v ∷ vs) zero j h = get_map v ss j no_slot nought h
 has_at ss (v ∷ vs) (suc q) j h = has_at ss vs q j h
 
-each_given : (g : Slot → Exponent) (l : List Slot) → each (λ s. given (g s)) l ≡ given (map g l)
+each_given : (g : Slot → Exponent) (l : List Slot) → each (λ s. Ok (g s)) l ≡ Ok (map g l)
 unfolding each
 each_given g [] = refl
 each_given g (s ∷ l) = bind_given _ refl ∙ ap (apply (λ m. g s ∷ m)) (each_given g l)
@@ -132,8 +132,8 @@ module _ (n : ℕ) (ss ts : List Slot) (js ks : List Facts) (a : Alike n ss ts j
         zeros = snoc_at none (λ u. (s : Slot) → suc n ≤ s.row → u s ≡ nought) a.at v (λ q s p. a.zeros q s (omega arith)) h.exps.zero;
       }
 
-  own_zero : (k : Kind) (l : List Factor) → some factor_fault l ≡ false → (s : Slot) → suc n ≤ s.row → own_at k a.at n l s ≡ given nought
-  own_zero Base l h s p = ap given (sym (self_other s n (λ e. omega arith)))
+  own_zero : (k : Kind) (l : List Factor) → some factor_fault l ≡ false → (s : Slot) → suc n ≤ s.row → own_at k a.at n l s ≡ Ok nought
+  own_zero Base l h s p = ap Ok (sym (self_other s n (λ e. omega arith)))
   own_zero (Derived f) l h s p = base-zero l _ h λ q. a.zeros q s (omega arith)
 
   module _ (r : Row) where

@@ -4,7 +4,7 @@ use mathlib.Core.Bool.{false}
 use mathlib.Core.List.{List, [], ◌∷◌, map}
 use Prim.Native.Nat.{ℕ, ◌≤◌}
 use native.Mathlib.Omega.{arith}
-use Rattle.exponents.specs.Outcome.{Outcome, given, refused, bind, each}
+use Rattle.exponents.specs.Outcome.{Outcome, Ok, Err, bind, each}
 use Rattle.exponents.specs.Fractions.{nought, faulty, sum?, mul?, add?, lcm?}
 use Rattle.exponents.specs.declared.Exponent.{Exponent}
 use Rattle.exponents.proofs.Holds.{Holds, moot, held, bind_given, holds_bind, holds_map, holds_eq, holds_any}
@@ -22,7 +22,7 @@ use Rattle.beginnings.proofs.Matched.{Matched, mute, matched_by, matched_imp}
 use Rattle.beginnings.proofs.Between.{Between, none, same, late}
 
 -- ---- at one base row: where no row has an exponent, no list has one
-pub base-zero : (l : List Factor) (b : ℕ → Exponent) → some factor_fault l ≡ false → ((r : ℕ) → b r ≡ nought) → base_at l b ≡ given nought
+pub base-zero : (l : List Factor) (b : ℕ → Exponent) → some factor_fault l ≡ false → ((r : ℕ) → b r ≡ nought) → base_at l b ≡ Ok nought
 unfolding base_at some sum? factor_fault
 base-zero [] b h z = refl
 base-zero (f ∷ l) b h z =
@@ -33,8 +33,8 @@ base-zero (f ∷ l) b h z =
 
 -- ---- at all of them, f at each
 abbrev answer : Outcome Exponent → Exponent
-answer (given x) = x
-answer (refused r) = nought
+answer (Ok x) = x
+answer (Err r) = nought
 
 module _ (f : Slot → Outcome Exponent) where
   mute_each : (s : Slot) (l : List Slot) → mute (each f (s ∷ l)) ≡ bind (f s) (λ _. mute (each f l))
@@ -46,7 +46,7 @@ module _ (f : Slot → Outcome Exponent) where
   each_is [] = held refl
   each_is (s ∷ l) = holds_bind _ (holds_eq (f s)) λ b p. holds_map _ (each_is l) λ m q. ap₂ ◌∷◌ (sym (ap answer p)) q
 
-  module _ (n : ℕ) (z : (s : Slot) → n ≤ s.row → f s ≡ given nought) where
+  module _ (n : ℕ) (z : (s : Slot) → n ≤ s.row → f s ≡ Ok nought) where
     each_between : {l m : List Slot} → Between n l m → mute (each f l) ≡ mute (each f m)
     each_between none = refl
     each_between (same {s = s} {l = l} {m = m} b) = mute_each s l ∙ ap (λ o. bind (f s) (λ _. o)) (each_between b) ∙ sym (mute_each s m)
@@ -77,7 +77,7 @@ pub record Spread (n : ℕ) (ss ts : List Slot) (es ds : List Exponent) : Type 0
 
 module _ (n : ℕ) (l ss ts : List Slot) (b : Between n l ss) (c : Between n l ts) where
   -- base exponents answer so, or refuse alike
-  pub each_spread : (f : Slot → Outcome Exponent) → ((s : Slot) → n ≤ s.row → f s ≡ given nought) → Matched (Spread n ss ts) (each f ss) (each f ts)
+  pub each_spread : (f : Slot → Outcome Exponent) → ((s : Slot) → n ≤ s.row → f s ≡ Ok nought) → Matched (Spread n ss ts) (each f ss) (each f ts)
   each_spread f z =
       matched_imp (matched_by (each_is f ss) (each_is f ts) (sym (each_between f n z b) ∙ each_between f n z c)) λ es ds h.
       record { at = λ s. answer (f s); one = h.0; two = h.1; zero = λ s k. ap answer (z s k) }

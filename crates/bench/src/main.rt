@@ -9,25 +9,12 @@
 // `_` no factor, `g` gram·metre·second^-2, `G` the same of kilogram, `s` gram^(1/2)·metre^(1/2)·second^-1. `cases.py` writes the lines.
 #![tactic(auto)]
 
-use canonical::equality::Verdict;
 use exponents::Exponent;
-use keys::order::Sense;
-use quantities::comparisons::Compared;
+use exponents::refusals::Refusal;
+use std::cmp::Ordering;
 use std::io;
 use std::io::Read;
 use units::{Candidate, Candidates, Factor, Factors, Kind, Prefix, Quantity, Row, Rows};
-use values::answers::Answer;
-
-// Words, as the characters of a line.
-const YES: u32 = 121;
-
-const NO: u32 = 113;
-
-const LESS: u32 = 60;
-
-const EQUAL: u32 = 61;
-
-const GREATER: u32 = 62;
 
 // ---- the table: gram, metre, second, bit; minute, hour, byte, newton
 
@@ -98,10 +85,8 @@ fn table(n: usize) -> Rows {
         at: [base_row(0); 128],
         len: n,
     };
-    let mut i: usize = 0;
-    while i < 128 {
+    for i in 0..128 {
         t.at[i] = row(i as u16);
-        i += 1;
     }
     t
 }
@@ -109,35 +94,24 @@ fn table(n: usize) -> Rows {
 // ---- what a line says
 
 fn byte_at(line: &[u8], i: usize) -> u8 {
-    if i < line.len() { line[i] } else { 0 }
-}
-
-fn wide(c: u8) -> u64 {
-    c as u64
+    line.get(i).copied().unwrap_or(0)
 }
 
 // A digit's value; of another character, the character.
 fn digit(c: u8) -> u64 {
-    if c >= b'0' {
-        if c <= b'9' {
-            return wide(c - b'0');
-        }
-    }
-    if c >= b'a' {
-        if c <= b'f' {
-            return wide(c - 87);
-        }
-    }
-    wide(c)
+    let value = match c {
+        b'0'..=b'9' => c - b'0',
+        b'a'..=b'f' => c - b'a' + 10,
+        _ => c,
+    };
+    value as u64
 }
 
 fn hex(line: &[u8], from: usize, n: usize) -> u64 {
     let mut r: u64 = 0;
-    let mut i: usize = 0;
-    while i < n {
+    for i in 0..n {
         let c = byte_at(line, std::num::wrapping_add_usize(from, i));
         r = (r << 4) | digit(c);
-        i += 1;
     }
     r
 }
@@ -245,31 +219,15 @@ fn quantity_at(line: &[u8], from: usize) -> Quantity {
 
 // ---- what a call answers
 
-// Words are handed over as the numbers of refusals are.
-fn decided(v: Verdict) -> u32 {
-    match v {
-        Verdict::Yes => YES,
-        Verdict::No => NO,
-        Verdict::Refused(n) => n,
-    }
+// A quantity; whether two are equal; which of two is the greater.
+#[derive(Clone, Copy, Drop)]
+enum Answer {
+    Quantity(Quantity),
+    Equal(bool),
+    Ordered(Ordering),
 }
 
-fn ordered(c: Compared) -> u32 {
-    match c {
-        Compared::Less => LESS,
-        Compared::Equal => EQUAL,
-        Compared::Greater => GREATER,
-        Compared::Refused(n) => n,
-    }
-}
-
-fn same_lists(q: Quantity, p: Quantity) -> u32 {
-    let u = q.unit;
-    let w = p.unit;
-    decided(lists::forms::same_list(table(8), u, w))
-}
-
-fn combined(call: u8, q: Quantity, p: Quantity) -> Answer {
+fn combined(call: u8, q: Quantity, p: Quantity) -> Result<Quantity, Refusal> {
     let t = table(8);
     match call {
         b'+' => sums::add(t, q, p),
@@ -296,7 +254,7 @@ fn candidate(l: Factors) -> Candidates {
     }
 }
 
-fn changed(call: u8, q: Quantity, l: Factors) -> Answer {
+fn changed(call: u8, q: Quantity, l: Factors) -> Result<Quantity, Refusal> {
     let t = table(rows_for(call));
     match call {
         b'c' => quantities::conversions::convert_to(t, q, l),
@@ -309,75 +267,87 @@ fn changed(call: u8, q: Quantity, l: Factors) -> Answer {
     }
 }
 
-fn judged(call: u8, q: Quantity, p: Quantity) -> u32 {
+fn asked(call: u8, q: Quantity, p: Quantity) -> Result<Answer, Refusal> {
+    let t = table(8);
     match call {
-        b'o' => ordered(quantities::comparisons::compare(table(8), q, p)),
-        b'e' => decided(quantities::comparisons::equal(table(8), q, p)),
-        _ => same_lists(q, p),
-    }
-}
-
-fn asked(call: u8, q: Quantity, p: Quantity) -> Answer {
-    match call {
-        b'o' | b'e' | b'l' => values::answers::refused(judged(call, q, p)),
-        b'+' | b'-' | b'*' | b'/' | b'^' => combined(call, q, p),
-        _ => {
-            let l = p.unit;
-            changed(call, q, l)
-        }
+        b'o' => Ok(Answer::Ordered(quantities::comparisons::compare(t, q, p)?)),
+        b'e' => Ok(Answer::Equal(quantities::comparisons::equal(t, q, p)?)),
+        b'l' => Ok(Answer::Equal(lists::forms::same_list(t, q.unit, p.unit)?)),
+        b'+' | b'-' | b'*' | b'/' | b'^' => Ok(Answer::Quantity(combined(call, q, p)?)),
+        _ => Ok(Answer::Quantity(changed(call, q, p.unit)?)),
     }
 }
 
 // ---- whether it is what it must be
 
 fn same_factor(f: Factor, g: Factor) -> bool {
-    let p = f.prefix;
-    let q = g.prefix;
-    let a = f.exponent;
-    let b = g.exponent;
-    let s = canonical::form::compared(f.row, p, g.row, q);
-    match s {
-        Sense::Equal => exponents::same(a, b),
-        Sense::Less => false,
-        Sense::Greater => false,
-    }
+    canonical::form::compared(f.row, f.prefix, g.row, g.prefix).is_eq() && f.exponent == g.exponent
 }
 
 // What stands past the end counts too.
 fn same_list(a: Factors, b: Factors) -> bool {
-    let mut same = a.len == b.len;
-    let mut i: usize = 0;
-    while i < 16 {
-        let f = a.at[i];
-        let g = b.at[i];
-        same = same & same_factor(f, g);
-        i += 1;
+    for i in 0..16 {
+        if !same_factor(a.at[i], b.at[i]) {
+            return false;
+        }
     }
-    same
+    a.len == b.len
 }
 
 fn same_quantity(q: Quantity, p: Quantity) -> bool {
-    let a = q.unit;
-    let b = p.unit;
-    (q.mark == p.mark) & (floats::bits_of(q.value) == floats::bits_of(p.value)) & same_list(a, b)
+    q.mark == p.mark
+        && floats::bits_of(q.value) == floats::bits_of(p.value)
+        && same_list(q.unit, p.unit)
 }
 
 fn text(rt: &impl Print, s: &[u8]) -> io::Result<()> {
     rt.write_all(s)
 }
 
-fn is_right(line: &[u8], got: Answer) -> bool {
-    let q = got.quantity;
-    let want = quantity_at(line, 100);
-    ((got.refusal as u64) == hex(line, 98, 1)) & same_quantity(q, want)
+// What a line has for a quantity where none is answered.
+fn nothing() -> Quantity {
+    Quantity {
+        unit: units::lists::empty(),
+        value: 0.0,
+        mark: false,
+    }
 }
 
-// What was answered: a refusal's number or a word's, and the value's bits.
-fn show_other(rt: &impl Print, got: Answer) -> io::Result<()> {
-    let refusal = got.refusal;
-    let q = got.quantity;
-    let bits = floats::bits_of(q.value);
-    println!(rt; " DIFFERS {refusal} {bits:016x}")
+// The character by which a line says what is answered.
+fn word(answer: Answer) -> u8 {
+    match answer {
+        Answer::Quantity(_) => b'0',
+        Answer::Equal(true) => b'y',
+        Answer::Equal(false) => b'q',
+        Answer::Ordered(Ordering::Less) => b'<',
+        Answer::Ordered(Ordering::Equal) => b'=',
+        Answer::Ordered(Ordering::Greater) => b'>',
+    }
+}
+
+fn is_right(line: &[u8], got: Result<Answer, Refusal>) -> bool {
+    let code = byte_at(line, 98);
+    let want = quantity_at(line, 100);
+    match got {
+        Ok(Answer::Quantity(q)) => code == b'0' && same_quantity(q, want),
+        Ok(answer) => code == word(answer) && same_quantity(nothing(), want),
+        Err(refusal) => digit(code) == u32::from(refusal) as u64 && same_quantity(nothing(), want),
+    }
+}
+
+// What was answered: the value's bits, a word or a refusal.
+fn show_other(rt: &impl Print, got: Result<Answer, Refusal>) -> io::Result<()> {
+    match got {
+        Ok(Answer::Quantity(q)) => {
+            let bits = floats::bits_of(q.value);
+            println!(rt; " DIFFERS {bits:016x}")
+        }
+        Ok(answer) => {
+            let word = word(answer) as char;
+            println!(rt; " DIFFERS {word}")
+        }
+        Err(refusal) => println!(rt; " DIFFERS {refusal:?}"),
+    }
 }
 
 fn tried(rt: &impl Print, line: &[u8]) -> io::Result<bool> {
@@ -424,22 +394,19 @@ fn next<R: Read>(rt: &impl Print, input: &mut R) -> io::Result<Outcome> {
 }
 
 fn run<R: Read>(rt: &impl Print, input: &mut R) -> io::Result<Tally> {
-    let mut cases: u64 = 0;
     let mut wrong: u64 = 0;
-    while cases < 1000 {
-        let o = next(rt, input)?;
-        match o {
+    for cases in 0..1000 {
+        match next(rt, input)? {
             Outcome::Right => {}
             Outcome::Wrong => {
                 wrong = std::num::wrapping_add_u64(wrong, 1);
             }
             Outcome::NoMore => {
-                break;
+                return Ok(Tally { cases, wrong });
             }
         }
-        cases += 1;
     }
-    Ok(Tally { cases, wrong })
+    Ok(Tally { cases: 1000, wrong })
 }
 
 fn main(rt: HostRuntime) -> io::Result<()> {

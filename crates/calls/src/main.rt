@@ -5,6 +5,7 @@ ghost use Rattle.std.specs.Prelude.{◌≡◌, ◌+◌, ◌≤◌, length};
 
 use inflow::Held;
 use std::io::Read;
+use stream::Frame;
 
 fn ended() -> Held
     ensures { (result.at ≡ 0) × (result.end ≡ 0) }
@@ -56,16 +57,14 @@ fn turn<R: Read>(
     if rt.write_all(&out[0..n]).is_err() {
         return ended();
     }
-    if f.next == stream::BAD {
-        return broken(rt);
-    }
-    if f.next == stream::SHORT {
-        return more(rt, input, inp, at + f.used, end);
-    }
-    Held {
-        at: at + f.used,
-        end: end,
-        live: true,
+    match f.next {
+        Frame::Bad => broken(rt),
+        Frame::Short => more(rt, input, inp, at + f.used, end),
+        Frame::Whole(_) => Held {
+            at: at + f.used,
+            end,
+            live: true,
+        },
     }
 }
 

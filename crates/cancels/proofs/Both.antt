@@ -5,7 +5,7 @@ use mathlib.Core.List.{List, [], ◌∷◌, append-nil}
 use Prim.Native.Nat.{Ordering}
 use lib.Dec.{eqb}
 use borrow.Author.Tests.{eqb-true, eq-eqb}
-use Rattle.exponents.specs.Outcome.{Refusal, UNITS, Outcome, given, refused, bind}
+use Rattle.exponents.specs.Outcome.{Refusal, UNITS, Outcome, Ok, Err, bind}
 use Rattle.exponents.specs.Fractions.{add, add?}
 use Rattle.exponents.specs.declared.Exponent.{Exponent}
 use Rattle.exponents.proofs.Holds.{Holds, holds_imp, take_out, Only, fine, only, one_answer, either, bind_given}
@@ -32,7 +32,7 @@ use Rattle.conversion.proofs.Faithful.{faithful, case, stopped_only, units_exact
 
 -- not refused by what leaves the range
 abbrev pub InReach : {A : Type 0} → Outcome A → Type 0
-InReach o = (r : Refusal) → OutOfRange r → o ≡ refused r → ⊥
+InReach o = (r : Refusal) → OutOfRange r → o ≡ Err r → ⊥
 
 -- ---- FRACTION or not
 
@@ -44,7 +44,7 @@ summed true false c false h p q = absurd (true≢false q)
 summed false b c false h p q = absurd (true≢false p)
 
 -- a scale is worked out exactly where it isn't fractional
-abbrev answers_false : {A : Type 0} {b : Bool} {a : A} → Fraction b (given a) → b ≡ false
+abbrev answers_false : {A : Type 0} {b : Bool} {a : A} → Fraction b (Ok a) → b ≡ false
 answers_false worked = refl
 
 false_answers : {A : Type 0} {S : Refusal → Type 0} {b : Bool} {o : Outcome A} → b ≡ false → Fraction b o → Only S o
@@ -84,16 +84,16 @@ module _ {A : Type 0} (R : Rules A) where
   -- ---- nothing left to merge
 
   -- the own list over the common factors is its own canonical form: one answer, or one refusal
-  pub merged_already : (l m cl cm : List Factor) (v : A) → canon R.order l ≡ given cl → canon R.order m ≡ given cm →
-      canon R.order (over l (common R.order cl cm)) ≡ given (over l (common R.order cl cm)) → cancelling R l m v ≡ convert R l m v
+  pub merged_already : (l m cl cm : List Factor) (v : A) → canon R.order l ≡ Ok cl → canon R.order m ≡ Ok cm →
+      canon R.order (over l (common R.order cl cm)) ≡ Ok (over l (common R.order cl cm)) → cancelling R l m v ≡ convert R l m v
   unfolding convert_by unlike bind
   merged_already l m cl cm v el em e = bind_given _ el ∙ bind_given _ em ∙ ap (choose _ v) (bind_given _ e) ∙ sym (bind_given _ el ∙ bind_given _ em)
 
   -- THEOREM: so it is where the own list is canonical and has nothing in common with the target
-  pub same_bits : (l m cm : List Factor) (v : A) → canon R.order l ≡ given l → canon R.order m ≡ given cm → common R.order l cm ≡ [] → cancelling R l m v ≡ convert R l m v
+  pub same_bits : (l m cm : List Factor) (v : A) → canon R.order l ≡ Ok l → canon R.order m ≡ Ok cm → common R.order l cm ≡ [] → cancelling R l m v ≡ convert R l m v
   same_bits l m cm v el em e =
       let p : over l (common R.order l cm) ≡ l = ap (over l) e ∙ append-nil l in
-      merged_already l m l cm v el em (ap (canon R.order) p ∙ el ∙ ap given (sym p))
+      merged_already l m l cm v el em (ap (canon R.order) p ∙ el ∙ ap Ok (sym p))
 
 module _ {A : Type 0} (R : Rules A) (W : Value) (O : Total R.order) where
   -- ---- UNITS
@@ -104,10 +104,10 @@ module _ {A : Type 0} (R : Rules A) (W : Value) (O : Total R.order) where
     unstopped {r} s = h r (stopped_only R W O ready K OutOfRange (λ r k. k) l m v s) (faithful R W O ready K l m v (stopped s))
 
     -- so a nonzero value of lists that differ, and whose base exponents do, is refused by UNITS
-    units_too : {cl cm : List Factor} → Unlike R W l m v cl cm → (Agree W R.bases l m → ⊥) → convert_by R ready l m v ≡ refused UNITS
+    units_too : {cl cm : List Factor} → Unlike R W l m v cl cm → (Agree W R.bases l m → ⊥) → convert_by R ready l m v ≡ Err UNITS
     units_too u n = go (case R W O ready K l m v)
       where
-        go : Case R W ready l m v → convert_by R ready l m v ≡ refused UNITS
+        go : Case R W ready l m v → convert_by R ready l m v ≡ Err UNITS
         go (zero el em z) = absurd (true≢false (sym z ∙ u.nonzero))
         go (equal el em) = absurd (u.differ (one_answer (sym u.own ∙ el) ∙ one_answer (sym em ∙ u.target)))
         go (stopped s) = absurd (unstopped s)
@@ -116,10 +116,10 @@ module _ {A : Type 0} (R : Rules A) (W : Value) (O : Total R.order) where
 
   -- THEOREM: the own list made ready in two ways: where neither leaves the range, one is refused by UNITS where the other is
   pub units_alike : (ready ready' : List Factor → Outcome (List Factor)) → Ready W ready → Ready W ready' → (l m : List Factor) (v : A) →
-      InReach (convert_by R ready l m v) → InReach (convert_by R ready' l m v) → convert_by R ready l m v ≡ refused UNITS → convert_by R ready' l m v ≡ refused UNITS
+      InReach (convert_by R ready l m v) → InReach (convert_by R ready' l m v) → convert_by R ready l m v ≡ Err UNITS → convert_by R ready' l m v ≡ Err UNITS
   units_alike ready ready' K K' l m v h h' e = from (case R W O ready K l m v) (sym (faithful R W O ready K l m v (case R W O ready K l m v)) ∙ e)
     where
-      from : (k : Case R W ready l m v) → answer R W ready k ≡ refused UNITS → convert_by R ready' l m v ≡ refused UNITS
+      from : (k : Case R W ready l m v) → answer R W ready k ≡ Err UNITS → convert_by R ready' l m v ≡ Err UNITS
       from (zero el em z) p = absurd (given_not_refused p)
       from (equal el em) p = absurd (given_not_refused p)
       from (stopped s) p = absurd (unstopped ready K l m v h s)
@@ -145,7 +145,7 @@ module _ {A : Type 0} (R : Rules A) (W : Value) (O : Total R.order) where
       reduced = over l (common R.order cl cm)
 
       -- and that of the own list keeps one when merged
-      by_scales : (c : List Factor) (z : List Exponent) → merge reduced ≡ given c → base R.bases c ≡ given z → Only OutOfRange (cancelling R l m v)
+      by_scales : (c : List Factor) (z : List Exponent) → merge reduced ≡ Ok c → base R.bases c ≡ Ok z → Only OutOfRange (cancelling R l m v)
       by_scales c z e p =
           let u : fractional R reduced ≡ false = ap (fractional R) (one_answer s.readied) ∙ or_left (fractional R own) (fractional R t) h in
           let k : Reduced R W merge l m v cl cm c z t y = record { lists = s.lists; readied = e; steps = record { own_base = p; target_is = s.steps.target_is; target-base = s.steps.target-base } } in
@@ -158,10 +158,10 @@ module _ {A : Type 0} (R : Rules A) (W : Value) (O : Total R.order) where
           (λ r e. stops (at_ready s.lists e))
 
     -- THEOREM: where the old one answers, the new one answers or is refused by what leaves the range
-    pub old_answers : (w : A) → convert R l m v ≡ given w → Only OutOfRange (cancelling R l m v)
+    pub old_answers : (w : A) → convert R l m v ≡ Ok w → Only OutOfRange (cancelling R l m v)
     old_answers w e = from (case R W O standing (stands W) l m v) (sym (faithful R W O standing (stands W) l m v (case R W O standing (stands W) l m v)) ∙ e)
       where
-        from : (k : Case R W standing l m v) → answer R W standing k ≡ given w → Only OutOfRange (cancelling R l m v)
+        from : (k : Case R W standing l m v) → answer R W standing k ≡ Ok w → Only OutOfRange (cancelling R l m v)
         from (zero el em z) p = by_case (zero el em z) fine
         from (equal el em) p = by_case (equal el em) fine
         from (stopped s) p = absurd (given_not_refused (sym p))

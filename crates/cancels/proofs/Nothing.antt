@@ -5,8 +5,10 @@ use mathlib.Core.List.{List, [], ◌∷◌, map}
 use mathlib.Core.Logic.{◌⊎◌, inl, inr}
 use Prim.Native.Nat.{ℕ, Ordering}
 use native.Mathlib.Omega.{arith}
+use Rattle.std.specs.declared.option.Option.{Option}
+use Rattle.std.specs.declared.option.Option.TheVariants.{Some, None}
 use Rattle.exponents.specs.Words.{pick}
-use Rattle.exponents.specs.Outcome.{given, apply}
+use Rattle.exponents.specs.Outcome.{Ok, apply}
 use Rattle.exponents.specs.Fractions.{nought, neg, add?, same, same_z}
 use Rattle.exponents.specs.declared.Exponent.{Exponent}
 use Rattle.exponents.proofs.Holds.{Holds, held, take_out, holds_eq, holds_imp, holds_both, holds_map, holds_bind}
@@ -20,8 +22,6 @@ use Rattle.tables.proofs.Total.{swap}
 use Rattle.canonical.specs.Canonical.{drop_if, canon}
 use Rattle.canonical.proofs.Sorted.{Above, Rising, above_trans, canon_canonical}
 use Rattle.canonical.proofs.Total.{Weak, through_weak, order_in_total}
-use Rattle.common.specs.declared.Shared.{Shared}
-use Rattle.common.specs.declared.Shared.TheVariants.{Takes, Nothing}
 use Rattle.common.specs.Common.{meet, if_same, with_shared, shared_with_lem, common, over}
 use Rattle.common.specs.Held.{taken, lessen}
 use Rattle.common.proofs.Shaped.{Has, meet_has}
@@ -30,24 +30,24 @@ use Rattle.common.proofs.Merging.{AllFound, above_like, found_before, all-behind
 -- ---- of one row and prefix: its exponent in a list, or nothing
 
 -- what two lists have in common of it
-abbrev shared : Shared → Shared → Shared
-shared (Takes x) (Takes y) = meet x y
-shared (Takes x) Nothing = Nothing
-shared Nothing s = Nothing
+abbrev shared : Option Exponent → Option Exponent → Option Exponent
+shared (Some x) (Some y) = meet x y
+shared (Some x) None = None
+shared None s = None
 
-shared_none : (s : Shared) → shared s Nothing ≡ Nothing
-shared_none (Takes x) = refl
-shared_none Nothing = refl
+shared_none : (s : Option Exponent) → shared s None ≡ None
+shared_none (Some x) = refl
+shared_none None = refl
 
-abbrev negated : Shared → Shared
-negated (Takes e) = Takes (neg e)
-negated Nothing = Nothing
+abbrev negated : Option Exponent → Option Exponent
+negated (Some e) = Some (neg e)
+negated None = None
 
 -- r is left of the first when the second is added: a zero is nothing. The last case is never met
-abbrev Leaves : Shared → Shared → Shared → Type 0
-Leaves s Nothing r = r ≡ s
-Leaves (Takes x) (Takes z) r = (v : Exponent) × (add? x z ≡ given v) × (r ≡ pick (same v nought) Nothing (Takes v))
-Leaves Nothing (Takes z) r = Unit {0}
+abbrev Leaves : Option Exponent → Option Exponent → Option Exponent → Type 0
+Leaves s None r = r ≡ s
+Leaves (Some x) (Some z) r = (v : Exponent) × (add? x z ≡ Ok v) × (r ≡ pick (same v nought) None (Some v))
+Leaves None (Some z) r = Unit {0}
 
 -- an exponent less itself is zero
 gone : (W : Value) (x : Exponent) → Holds (λ v. v ≡ nought) (add? x (neg x))
@@ -56,20 +56,20 @@ gone W x =
     W.low_same v nought h.0 W.nil_low
     (h.1 W.one ∙ ap (W.add (W.act x W.one)) (W.neg_act x W.one) ∙ W.add-neg (W.act x W.one) ∙ sym (W.nil_act W.one))
 
-none_left : (x : Exponent) (r : Shared) → Leaves (Takes x) (Takes (neg x)) r → r ≡ Nothing
+none_left : (x : Exponent) (r : Option Exponent) → Leaves (Some x) (Some (neg x)) r → r ≡ None
 unfolding same same_z
-none_left x r h = h.2 ∙ ap (λ v. pick (same v nought) Nothing (Takes v)) (take_out (gone value x) h.1)
+none_left x r h = h.2 ∙ ap (λ v. pick (same v nought) None (Some v)) (take_out (gone value x) h.1)
 
 -- what both have in common is the exponent of the one or of the other: taken off both, it leaves nothing of that one
-nothing_left : (x y r s : Shared) → Leaves x (negated (shared x y)) r → Leaves y (negated (shared x y)) s → shared r s ≡ Nothing
-nothing_left Nothing y r s p q = ap (λ o. shared o s) p
-nothing_left (Takes a) Nothing r s p q = ap (shared r) q ∙ shared_none r
-nothing_left (Takes a) (Takes b) r s p q = go (meet a b) refl (meet_has (λ e. (e ≡ a) ⊎ (e ≡ b)) a b (inl refl) (inr refl)) p q
+nothing_left : (x y r s : Option Exponent) → Leaves x (negated (shared x y)) r → Leaves y (negated (shared x y)) s → shared r s ≡ None
+nothing_left None y r s p q = ap (λ o. shared o s) p
+nothing_left (Some a) None r s p q = ap (shared r) q ∙ shared_none r
+nothing_left (Some a) (Some b) r s p q = go (meet a b) refl (meet_has (λ e. (e ≡ a) ⊎ (e ≡ b)) a b (inl refl) (inr refl)) p q
   where
-    go : (o : Shared) → meet a b ≡ o → Has (λ e. (e ≡ a) ⊎ (e ≡ b)) o → Leaves (Takes a) (negated o) r → Leaves (Takes b) (negated o) s → shared r s ≡ Nothing
-    go (Takes e) m (inl i) p q = ap (λ o. shared o s) (none_left a r (subst (λ e. Leaves (Takes a) (Takes (neg e)) r) i p))
-    go (Takes e) m (inr i) p q = ap (shared r) (none_left b s (subst (λ e. Leaves (Takes b) (Takes (neg e)) s) i q)) ∙ shared_none r
-    go Nothing m h p q = ap₂ shared p q ∙ m
+    go : (o : Option Exponent) → meet a b ≡ o → Has (λ e. (e ≡ a) ⊎ (e ≡ b)) o → Leaves (Some a) (negated o) r → Leaves (Some b) (negated o) s → shared r s ≡ None
+    go (Some e) m (inl i) p q = ap (λ o. shared o s) (none_left a r (subst (λ e. Leaves (Some a) (Some (neg e)) r) i p))
+    go (Some e) m (inr i) p q = ap (shared r) (none_left b s (subst (λ e. Leaves (Some b) (Some (neg e)) s) i q)) ∙ shared_none r
+    go None m h p q = ap₂ shared p q ∙ m
 
 -- as two factors compare: alike, or not
 as_compared : {C : Type 0} (o : Ordering) → (o ≡ Ordering.eq → C) → ((o ≡ Ordering.eq → ⊥) → C) → C
@@ -77,7 +77,7 @@ as_compared Ordering.lt f g = g λ e. let z : ◌≡◌ {A = ℕ} 0 1 = cc in om
 as_compared Ordering.eq f g = f refl
 as_compared Ordering.gt f g = g λ e. let z : ◌≡◌ {A = ℕ} 0 1 = cc in omega arith
 
-if_map : (h : Shared → Shared) (o : Ordering) (a b : Shared) → if_same o (h a) (h b) ≡ h (if_same o a b)
+if_map : (h : Option Exponent → Option Exponent) (o : Ordering) (a b : Option Exponent) → if_same o (h a) (h b) ≡ h (if_same o a b)
 unfolding if_same
 if_map h Ordering.lt a b = refl
 if_map h Ordering.eq a b = refl
@@ -85,63 +85,63 @@ if_map h Ordering.gt a b = refl
 
 module _ (cmp : Atom → Atom → Ordering) (O : Weak cmp) where
   -- ---- the exponent that a list has of k
-  abbrev seek : Atom → List Factor → Shared
-  seek k [] = Nothing
-  seek k (f ∷ l) = if_same (cmp k (atom f)) (Takes f.exponent) (seek k l)
+  abbrev seek : Atom → List Factor → Option Exponent
+  seek k [] = None
+  seek k (f ∷ l) = if_same (cmp k (atom f)) (Some f.exponent) (seek k l)
 
   module _ (k : Atom) (f : Factor) (l : List Factor) where
-    seek_here : cmp k (atom f) ≡ Ordering.eq → seek k (f ∷ l) ≡ Takes f.exponent
+    seek_here : cmp k (atom f) ≡ Ordering.eq → seek k (f ∷ l) ≡ Some f.exponent
     unfolding if_same
-    seek_here e = ap (λ o. if_same o (Takes f.exponent) (seek k l)) e
+    seek_here e = ap (λ o. if_same o (Some f.exponent) (seek k l)) e
 
     seek_past : (cmp k (atom f) ≡ Ordering.eq → ⊥) → seek k (f ∷ l) ≡ seek k l
     unfolding if_same
     seek_past n = go (cmp k (atom f)) n
       where
-        go : (o : Ordering) → (o ≡ Ordering.eq → ⊥) → if_same o (Takes f.exponent) (seek k l) ≡ seek k l
+        go : (o : Ordering) → (o ≡ Ordering.eq → ⊥) → if_same o (Some f.exponent) (seek k l) ≡ seek k l
         go Ordering.lt n = refl
         go Ordering.eq n = absurd (n refl)
         go Ordering.gt n = refl
 
   -- nothing if all come behind
-  seek_none : (k : Atom) (l : List Factor) → Above cmp k l → seek k l ≡ Nothing
+  seek_none : (k : Atom) (l : List Factor) → Above cmp k l → seek k l ≡ None
   unfolding if_same
   seek_none k [] a = refl
-  seek_none k (f ∷ l) a = ap (λ o. if_same o (Takes f.exponent) (seek k l)) a.0 ∙ seek_none k l a.1
+  seek_none k (f ∷ l) a = ap (λ o. if_same o (Some f.exponent) (seek k l)) a.0 ∙ seek_none k l a.1
 
   seek_like : (j k : Atom) (l : List Factor) → cmp j k ≡ Ordering.eq → seek j l ≡ seek k l
   seek_like j k [] e = refl
-  seek_like j k (f ∷ l) e = ap₂ (λ o s. if_same o (Takes f.exponent) s) (O.like j k (atom f) e) (seek_like j k l e)
+  seek_like j k (f ∷ l) e = ap₂ (λ o s. if_same o (Some f.exponent) s) (O.like j k (atom f) e) (seek_like j k l e)
 
   back : (j k : Atom) → cmp j k ≡ Ordering.eq → cmp k j ≡ Ordering.eq
   back j k e = O.swaps j k ∙ ap swap e
 
   -- nothing behind f, if k compares as f does
-  seek_behind : (k : Atom) (f : Factor) (l : List Factor) → cmp k (atom f) ≡ Ordering.eq → Above cmp (atom f) l → seek k l ≡ Nothing
+  seek_behind : (k : Atom) (f : Factor) (l : List Factor) → cmp k (atom f) ≡ Ordering.eq → Above cmp (atom f) l → seek k l ≡ None
   seek_behind k f l e a = seek_none k l (above_like cmp O (atom f) k l (back k (atom f) e) a)
 
   seek_inverted : (k : Atom) (l : List Factor) → seek k (map inverted l) ≡ negated (seek k l)
   unfolding inverted with_exponent
   seek_inverted k [] = refl
-  seek_inverted k (f ∷ l) = ap (if_same (cmp k (atom f)) (Takes (neg f.exponent))) (seek_inverted k l) ∙ if_map negated (cmp k (atom f)) (Takes f.exponent) (seek k l)
+  seek_inverted k (f ∷ l) = ap (if_same (cmp k (atom f)) (Some (neg f.exponent))) (seek_inverted k l) ∙ if_map negated (cmp k (atom f)) (Some f.exponent) (seek k l)
 
   -- ---- in the common factors
-  shared_with : (f : Factor) (m : List Factor) → shared_with_lem cmp f m ≡ shared (Takes f.exponent) (seek (atom f) m)
+  shared_with : (f : Factor) (m : List Factor) → shared_with_lem cmp f m ≡ shared (Some f.exponent) (seek (atom f) m)
   unfolding shared_with_lem
   shared_with f [] = refl
   shared_with f (g ∷ m) =
       ap (if_same (cmp (atom f) (atom g)) (meet f.exponent g.exponent)) (shared_with f m)
-      ∙ if_map (shared (Takes f.exponent)) (cmp (atom f) (atom g)) (Takes g.exponent) (seek (atom f) m)
+      ∙ if_map (shared (Some f.exponent)) (cmp (atom f) (atom g)) (Some g.exponent) (seek (atom f) m)
 
-  with_here : (k : Atom) (s : Shared) (f : Factor) (l : List Factor) → cmp k (atom f) ≡ Ordering.eq → seek k l ≡ Nothing → seek k (with_shared s f l) ≡ s
+  with_here : (k : Atom) (s : Option Exponent) (f : Factor) (l : List Factor) → cmp k (atom f) ≡ Ordering.eq → seek k l ≡ None → seek k (with_shared s f l) ≡ s
   unfolding with_shared
-  with_here k (Takes e) f l p n = seek_here k (of (atom f) e) l p
-  with_here k Nothing f l p n = n
+  with_here k (Some e) f l p n = seek_here k (of (atom f) e) l p
+  with_here k None f l p n = n
 
-  with_past : (k : Atom) (s : Shared) (f : Factor) (l : List Factor) → (cmp k (atom f) ≡ Ordering.eq → ⊥) → seek k (with_shared s f l) ≡ seek k l
+  with_past : (k : Atom) (s : Option Exponent) (f : Factor) (l : List Factor) → (cmp k (atom f) ≡ Ordering.eq → ⊥) → seek k (with_shared s f l) ≡ seek k l
   unfolding with_shared
-  with_past k (Takes e) f l n = seek_past k (of (atom f) e) l n
-  with_past k Nothing f l n = refl
+  with_past k (Some e) f l n = seek_past k (of (atom f) e) l n
+  with_past k None f l n = refl
 
   seek_common : (k : Atom) (l m : List Factor) → Rising cmp l → seek k (common cmp l m) ≡ shared (seek k l) (seek k m)
   unfolding common
@@ -151,7 +151,7 @@ module _ (cmp : Atom → Atom → Ordering) (O : Weak cmp) where
       as_compared (cmp k (atom f))
       (λ e. with_here k _ f (common cmp l m) e (rest ∙ ap (λ s. shared s (seek k m)) (seek_behind k f l e r.0))
       ∙ shared_with f m
-      ∙ ap (shared (Takes f.exponent)) (sym (seek_like k (atom f) m e))
+      ∙ ap (shared (Some f.exponent)) (sym (seek_like k (atom f) m e))
       ∙ sym (ap (λ s. shared s (seek k m)) (seek_here k f l e)))
       (λ n. with_past k _ f (common cmp l m) n ∙ rest ∙ sym (ap (λ s. shared s (seek k m)) (seek_past k f l n)))
 
@@ -159,7 +159,7 @@ module _ (cmp : Atom → Atom → Ordering) (O : Weak cmp) where
   abbrev Lessens : List Factor → List Factor → List Factor → Type 0
   Lessens m cs r = (k : Atom) → Leaves (seek k m) (seek k cs) (seek k r)
 
-  drop_here : (k : Atom) (t : Bool) (f : Factor) (r : List Factor) → cmp k (atom f) ≡ Ordering.eq → seek k r ≡ Nothing → seek k (drop_if t f r) ≡ pick t Nothing (Takes f.exponent)
+  drop_here : (k : Atom) (t : Bool) (f : Factor) (r : List Factor) → cmp k (atom f) ≡ Ordering.eq → seek k r ≡ None → seek k (drop_if t f r) ≡ pick t None (Some f.exponent)
   unfolding drop_if
   drop_here k true f r e n = n
   drop_here k false f r e n = seek_here k f r e
@@ -179,7 +179,7 @@ module _ (cmp : Atom → Atom → Ordering) (O : Weak cmp) where
         (subst (Leaves (seek k m) (seek k (c ∷ cs))) (sym (seek_past k g z n)) (w k)))
 
     -- c is merged with g
-    merged : cmp (atom c) (atom g) ≡ Ordering.eq → (v : Exponent) → add? g.exponent c.exponent ≡ given v → (z : List Factor) → Above cmp (atom g) cs → Lessens m cs z → Lessens (g ∷ m) (c ∷ cs) (drop_if (same v nought) (of (atom g) v) z)
+    merged : cmp (atom c) (atom g) ≡ Ordering.eq → (v : Exponent) → add? g.exponent c.exponent ≡ Ok v → (z : List Factor) → Above cmp (atom g) cs → Lessens m cs z → Lessens (g ∷ m) (c ∷ cs) (drop_if (same v nought) (of (atom g) v) z)
     merged e v p z a w k =
         let as_g : cmp k (atom c) ≡ cmp k (atom g) = O.swaps (atom c) k ∙ ap swap (O.like (atom c) (atom g) k e) ∙ sym (O.swaps (atom g) k) in
         let y = drop_if (same v nought) (of (atom g) v) z in
@@ -187,7 +187,7 @@ module _ (cmp : Atom → Atom → Ordering) (O : Weak cmp) where
         (λ q.
         let none = subst (λ x. Leaves (seek k m) x (seek k z)) (seek_behind k g cs q a) (w k) ∙ seek_behind k g m q r.0 in
         subst (λ x. Leaves x (seek k (c ∷ cs)) (seek k y)) (sym (seek_here k g m q))
-        (subst (λ x. Leaves (Takes g.exponent) x (seek k y)) (sym (seek_here k c cs (as_g ∙ q)))
+        (subst (λ x. Leaves (Some g.exponent) x (seek k y)) (sym (seek_here k c cs (as_g ∙ q)))
         (v, p, drop_here k (same v nought) (of (atom g) v) z q none)))
         (λ n. subst (λ x. Leaves x (seek k (c ∷ cs)) (seek k y)) (sym (seek_past k g m n))
         (subst (λ x. Leaves (seek k m) x (seek k y)) (sym (seek_past k c cs λ q. n (sym as_g ∙ q)))
@@ -214,13 +214,13 @@ module _ (cmp : Atom → Atom → Ordering) (O : Weak cmp) where
   seek_lessen (g ∷ m) (c ∷ cs) r s h = turn g m c cs r s _ refl h (seek_lessen m cs r.1 s.1) (seek_lessen m (c ∷ cs) r.1 s)
 
   -- ---- the reduced lists
-  sought_none : (l : List Factor) → ((k : Atom) → seek k l ≡ Nothing) → l ≡ []
+  sought_none : (l : List Factor) → ((k : Atom) → seek k l ≡ None) → l ≡ []
   sought_none [] h = refl
   sought_none (f ∷ l) h = absurd (let p = sym (seek_here (atom f) f l (self cmp O (atom f))) ∙ h (atom f) in let z : ◌≡◌ {A = ℕ} 0 1 = cc in omega arith)
 
-  module _ (l m cl cm own t : List Factor) (p : canon cmp l ≡ given cl) (q : canon cmp m ≡ given cm) where
+  module _ (l m cl cm own t : List Factor) (p : canon cmp l ≡ Ok cl) (q : canon cmp m ≡ Ok cm) where
     -- the common factors of the two lists over their common factors, both merged: none
-    pub nothing_common : canon cmp (over l (common cmp cl cm)) ≡ given own → canon cmp (over m (common cmp cl cm)) ≡ given t → common cmp own t ≡ []
+    pub nothing_common : canon cmp (over l (common cmp cl cm)) ≡ Ok own → canon cmp (over m (common cmp cl cm)) ≡ Ok t → common cmp own t ≡ []
     nothing_common u w =
         let cs = map inverted (common cmp cl cm) in
         let rl = (take_out (canon_canonical cmp O l) p).rising in
@@ -236,6 +236,6 @@ module _ (cmp : Atom → Atom → Ordering) (O : Weak cmp) where
         (subst (λ x. Leaves (seek k cm) x (seek k t)) (off k) (b k))
 
 -- in a table
-pub nothing_common_in : (ks : List Facts) (l m cl cm own t : List Factor) → canon (order_in ks) l ≡ given cl → canon (order_in ks) m ≡ given cm →
-    canon (order_in ks) (over l (common (order_in ks) cl cm)) ≡ given own → canon (order_in ks) (over m (common (order_in ks) cl cm)) ≡ given t → common (order_in ks) own t ≡ []
+pub nothing_common_in : (ks : List Facts) (l m cl cm own t : List Factor) → canon (order_in ks) l ≡ Ok cl → canon (order_in ks) m ≡ Ok cm →
+    canon (order_in ks) (over l (common (order_in ks) cl cm)) ≡ Ok own → canon (order_in ks) (over m (common (order_in ks) cl cm)) ≡ Ok t → common (order_in ks) own t ≡ []
 nothing_common_in ks = nothing_common (order_in ks) (through_weak (order_in_total ks) (λ u. u))

@@ -8,7 +8,7 @@ use lib.Ieee.{Float, binary64, mul}
 use lib.ListN.{length, length-append}
 use borrow.Author.Tests.{ltb-true, not-false}
 use Rattle.exponents.specs.Words.{All}
-use Rattle.exponents.specs.Outcome.{given, apply}
+use Rattle.exponents.specs.Outcome.{Ok, apply}
 use Rattle.exponents.proofs.Holds.{one_answer, take_out}
 use Rattle.exponents.proofs.Each.{all_imp, all_by, all_both}
 use Rattle.floats.specs.Power.{one}
@@ -86,7 +86,7 @@ module _ (S : ℕ → Type 0) where
   module _ (ss : List Slot) (js js' : List Facts) (c : Close js js') (r r' : Row) (b : Beside (length js) r r') where
     exps_same : (k k' : Kind) → is_base k ≡ is_base k' → row_exps k ss js r ≡ row_exps k' ss js' r'
     unfolding is_base row_exps
-    exps_same Base Base e = ap (λ n. given (map (self_exp n) ss)) (bare_length js js' c.bares)
+    exps_same Base Base e = ap (λ n. Ok (map (self_exp n) ss)) (bare_length js js' c.bares)
     exps_same Base (Derived f) e = absurd (true≢false e)
     exps_same (Derived f) Base e = absurd (false≢true e)
     exps_same (Derived f) (Derived f') e = ap₂ base (bare_bases js js' c.bares (length ss)) b.def
@@ -135,7 +135,7 @@ module _ (S : ℕ → Type 0) where
       (subst (λ n. Rowwise n rs rs') (omega (arith, length-append js (k ∷ []))) h.1) b b'
 
   -- ---- two admitted tables, row for row
-  module _ (t t' : Rows) (ks ks' : List Facts) (k : table t ≡ given ks) (k' : table t' ≡ given ks') (h : Rowwise 0 (rows_of t) (rows_of t')) where
+  module _ (t t' : Rows) (ks ks' : List Facts) (k : table t ≡ Ok ks) (k' : table t' ≡ Ok ks') (h : Rowwise 0 (rows_of t) (rows_of t')) where
     -- are known alike but for scales, and these too where S holds
     pub rows-close : Close ks ks'
     rows-close =
@@ -145,7 +145,7 @@ module _ (S : ℕ → Type 0) where
 
     -- and convert alike where S holds of the rows that the reduced lists name
     pub rows_unread : (q : Quantity) (m : Factors) →
-        ((fs gs : List Factor) → both (length ks) q.unit m ≡ given (fs, gs) → OnReduced (λ f. S f.row) (order_in ks) fs gs) →
+        ((fs gs : List Factor) → both (length ks) q.unit m ≡ Ok (fs, gs) → OnReduced (λ f. S f.row) (order_in ks) fs gs) →
         convert_merged t q m ≡ convert_merged t' q m
     rows_unread q m g = unread t t' ks ks' k k' rows-close.bares q m λ fs gs b. on_reduced_imp (order_in ks) fs gs (λ f s. rows-close.scales f.row s) (g fs gs b)
 
@@ -174,7 +174,7 @@ module _ (a b : List Row) (r r' : Row) where
   one_row w i [] e = (record { rank = w.rank; def = w.def; base = ap is_base w.kind ∙ sym (ap is_base w.kind'); stays = λ o. absurd (o (omega arith)) }, behind (suc i) b w.unnamed)
   one_row w i (s ∷ l) e = (record { rank = refl; def = refl; base = refl; stays = λ _. (refl, all_by _ no_factor (def_of s) λ j _ p q. omega arith) }, one_row w (suc i) l (omega arith))
 
-  module _ (t t' : Rows) (ks ks' : List Facts) (k : table t ≡ given ks) (k' : table t' ≡ given ks') (rows : rows_of t ≡ a ++ (r ∷ b)) (rows' : rows_of t' ≡ a ++ (r' ∷ b)) (w : FactorAlone) where
+  module _ (t t' : Rows) (ks ks' : List Facts) (k : table t ≡ Ok ks) (k' : table t' ≡ Ok ks') (rows : rows_of t ≡ a ++ (r ∷ b)) (rows' : rows_of t' ≡ a ++ (r' ∷ b)) (w : FactorAlone) where
     row_rowwise : Rowwise Other 0 (rows_of t) (rows_of t')
     row_rowwise = subst (λ l. Rowwise Other 0 l (rows_of t')) (sym rows) (subst (λ l. Rowwise Other 0 (a ++ (r ∷ b)) l) (sym rows') (one_row w 0 a (omega arith)))
 
@@ -184,6 +184,6 @@ module _ (a b : List Row) (r r' : Row) where
 
     -- and convert alike where no factor of the reduced lists names that row, whatever its factor is
     pub row_unread : (q : Quantity) (m : Factors) →
-        ((fs gs : List Factor) → both (length ks) q.unit m ≡ given (fs, gs) → OnReduced (λ f. Other f.row) (order_in ks) fs gs) →
+        ((fs gs : List Factor) → both (length ks) q.unit m ≡ Ok (fs, gs) → OnReduced (λ f. Other f.row) (order_in ks) fs gs) →
         convert_merged t q m ≡ convert_merged t' q m
     row_unread = rows_unread Other t t' ks ks' k k' row_rowwise

@@ -7,7 +7,7 @@ use native.Mathlib.Omega.{arith}
 use lib.Ieee.{binary64, mul}
 use lib.ListN.{length, get_or, length-map, get_or-map}
 use Rattle.exponents.specs.Words.{All}
-use Rattle.exponents.specs.Outcome.{Outcome, given, apply, bind}
+use Rattle.exponents.specs.Outcome.{Outcome, Ok, apply, bind}
 use Rattle.exponents.specs.Fractions.{nought}
 use Rattle.exponents.proofs.Holds.{Holds, take_out, bind_given, holds_imp}
 use Rattle.exponents.proofs.Following.{bind_same}
@@ -39,7 +39,7 @@ use Rattle.quantities.specs.Calls.{convert_merged}
 
 -- P holds of each factor of the two reduced lists: either list over the factors that both forms have in common, made canonical
 abbrev pub OnReduced : (Factor → Type 0) → (Atom → Atom → Ordering) → List Factor → List Factor → Type 0
-OnReduced P cmp l m = (cl cm : List Factor) → canon cmp l ≡ given cl → canon cmp m ≡ given cm →
+OnReduced P cmp l m = (cl cm : List Factor) → canon cmp l ≡ Ok cl → canon cmp m ≡ Ok cm →
     Holds (All P) (canon cmp (over l (common cmp cl cm))) × Holds (All P) (canon cmp (over m (common cmp cl cm)))
 
 pub on_reduced_imp : {P Q : Factor → Type 0} (cmp : Atom → Atom → Ordering) (l m : List Factor) → ((f : Factor) → P f → Q f) → OnReduced P cmp l m → OnReduced Q cmp l m
@@ -123,7 +123,7 @@ module _ (ks ks' : List Facts) (e : map bare ks ≡ map bare ks') where
       sym (table_sound _ (r ∷ rs) ks a r 0 (omega arith)).sized ∙ ap (λ (k : Facts). length k.exps) (bare_at 0) ∙ (table_sound _ (r' ∷ rs') ks' a' r' 0 (omega arith)).sized
 
 -- two admitted tables that differ in scales alone
-module _ (t t' : Rows) (ks ks' : List Facts) (k : table t ≡ given ks) (k' : table t' ≡ given ks') (e : map bare ks ≡ map bare ks') where
+module _ (t t' : Rows) (ks ks' : List Facts) (k : table t ≡ Ok ks) (k' : table t' ≡ Ok ks') (e : map bare ks ≡ map bare ks') where
   like : Like (rules_in t ks) (rules_in t' ks')
   like = record {
     order = bare_order ks ks' e;
@@ -133,7 +133,7 @@ module _ (t t' : Rows) (ks ks' : List Facts) (k : table t ≡ given ks) (k' : ta
 
   -- a call answers alike in both where the rows named by the reduced lists have the same scale in both: no other scale is read
   pub unread : (q : Quantity) (m : Factors) →
-      ((fs gs : List Factor) → both (length ks) q.unit m ≡ given (fs, gs) → OnReduced (λ f. scale_at ks f.row ≡ scale_at ks' f.row) (order_in ks) fs gs) →
+      ((fs gs : List Factor) → both (length ks) q.unit m ≡ Ok (fs, gs) → OnReduced (λ f. scale_at ks f.row ≡ scale_at ks' f.row) (order_in ks) fs gs) →
       convert_merged t q m ≡ convert_merged t' q m
   unfolding convert_merged
   unread q m h =

@@ -3,7 +3,7 @@ use mathlib.Core.Path.{◌≡◌, refl, sym, ◌∙◌, ap, ap₂, subst}
 use mathlib.Core.Bool.{Bool, true, false}
 use mathlib.Core.List.{List, [], ◌∷◌, ◌++◌, map}
 use Prim.Native.Nat.{ℕ, Ordering}
-use Rattle.exponents.specs.Outcome.{Outcome, given, each}
+use Rattle.exponents.specs.Outcome.{Outcome, Ok, each}
 use Rattle.exponents.specs.Fractions.{nought, same, ranged}
 use Rattle.exponents.specs.declared.Exponent.{Exponent}
 use Rattle.exponents.proofs.Holds.{Holds, held, take_out, holds_imp, holds_map, holds_bind}
@@ -100,5 +100,5 @@ module _ (W : Value) where
     exact_canon l b = holds_map _ (gather_exact [] l b) λ m h. nonzero_exact m b ∙ h ∙ zero-add W _
 
     -- lists with the same canonical form have the same base exponents
-    pub exact_equal : (l m c : List Factor) → canon cmp l ≡ given c → canon cmp m ≡ given c → (b : ℕ → Exponent) → exact l b ≡ exact m b
+    pub exact_equal : (l m c : List Factor) → canon cmp l ≡ Ok c → canon cmp m ≡ Ok c → (b : ℕ → Exponent) → exact l b ≡ exact m b
     exact_equal l m c p q b = sym (take_out (exact_canon l b) p) ∙ take_out (exact_canon m b) q

@@ -3,7 +3,7 @@ use mathlib.Core.Path.{◌≡◌, sym, ◌∙◌, ap, ap₂, subst}
 use mathlib.Core.List.{List, ◌++◌, map}
 use Prim.Native.Nat.{ℕ, zero, ◌<◌}
 use native.Mathlib.Nat.{mul-pos}
-use Rattle.exponents.specs.Outcome.{given, each}
+use Rattle.exponents.specs.Outcome.{Ok, each}
 use Rattle.exponents.specs.Fractions.{neg, add, mul, ranged, add?, mul?}
 use Rattle.exponents.specs.declared.Exponent.{Exponent}
 use Rattle.exponents.proofs.Exact as fl
@@ -19,7 +19,7 @@ use Rattle.canonical.proofs.Algebra.{exact_join, exact_over, exact_power}
 use Rattle.canonical.proofs.Sums.{Has, has_worth}
 
 -- what is worth as much as an exponent that keeps the rule is in range
-settled : (w z : Exponent) → Low w → Sound z → worth value z ≡ worth value w → ranged w ≡ given z
+settled : (w z : Exponent) → Low w → Sound z → worth value z ≡ worth value w → ranged w ≡ Ok z
 settled w z h s e = ap ranged (sym (value.low_same z w s.low h e)) ∙ ranged_given z s.range
 
 worth_add : (x y : Exponent) → Low x → Low y → worth value (add x y) ≡ plus (worth value x) (worth value y)
@@ -36,13 +36,13 @@ module _ (b : ℕ → Exponent) where
   has_sound : (l : List Factor) (x : Exponent) → Has b l x → Sound x
   has_sound l x h = take_out (base_at_sound l b) h
 
-  pub product-answers : (l m : List Factor) (x y z : Exponent) → Has b l x → Has b m y → Has b (l ++ m) z → add? x y ≡ given z
+  pub product-answers : (l m : List Factor) (x y z : Exponent) → Has b l x → Has b m y → Has b (l ++ m) z → add? x y ≡ Ok z
   product-answers l m x y z p q r =
       settled (add x y) z (add_low (has_sound l x p).low (has_sound m y q).low) (has_sound (l ++ m) z r)
       (has_worth value b (l ++ m) z r ∙ exact_join value l m b
       ∙ sym (worth_add x y (has_sound l x p).low (has_sound m y q).low ∙ ap₂ plus (has_worth value b l x p) (has_worth value b m y q)))
 
-  pub quotient-answers : (l m : List Factor) (x y z : Exponent) → Has b l x → Has b m y → Has b (l ++ map inverted m) z → add? x (neg y) ≡ given z
+  pub quotient-answers : (l m : List Factor) (x y z : Exponent) → Has b l x → Has b m y → Has b (l ++ map inverted m) z → add? x (neg y) ≡ Ok z
   quotient-answers l m x y z p q r =
       let i = (has_sound l x p).low in
       let j = fl.neg_low (has_sound m y q).low in
@@ -50,7 +50,7 @@ module _ (b : ℕ → Exponent) where
       (has_worth value b (l ++ map inverted m) z r ∙ exact_over value l m b
       ∙ sym (worth_add x (neg y) i j ∙ ap₂ plus (has_worth value b l x p) (value.neg_act y value.one ∙ ap minus (has_worth value b m y q))))
 
-  pub power-answers : (e : Exponent) (l p : List Factor) (x z : Exponent) → zero < e.den → each (raised e) l ≡ given p → Has b l x → Has b p z → mul? e x ≡ given z
+  pub power-answers : (e : Exponent) (l p : List Factor) (x z : Exponent) → zero < e.den → each (raised e) l ≡ Ok p → Has b l x → Has b p z → mul? e x ≡ Ok z
   power-answers e l p x z d g q r =
       let i = (has_sound l x q).low.some in
       settled (mul e x) z (low_mul e x d i) (has_sound p z r)

@@ -2,7 +2,7 @@
 use mathlib.Core.Path.{◌≡◌, sym, ◌∙◌, ap}
 use mathlib.Core.List.{List, [], ◌∷◌}
 use Prim.Native.Nat.{ℕ}
-use Rattle.exponents.specs.Outcome.{given}
+use Rattle.exponents.specs.Outcome.{Ok}
 use Rattle.exponents.specs.Fractions.{nought, same}
 use Rattle.exponents.specs.declared.Exponent.{Exponent}
 use Rattle.exponents.proofs.Holds.{Holds, take_out, holds_by}
@@ -55,11 +55,11 @@ module _ (W : Value) where
   nought_decides l (next p ps) = and_decides _ _ (one_decides l [] _ nought p (none_exactly _)) (nought_decides l ps)
 
   -- the lists of two answers are the same exactly where the units agree
-  pub base_decides : (bs : List (ℕ → Exponent)) (l m : List Factor) (xs ys : List Exponent) → base bs l ≡ given xs → base bs m ≡ given ys → Decides (Agree bs l m) (same_all xs ys)
+  pub base_decides : (bs : List (ℕ → Exponent)) (l m : List Factor) (xs ys : List Exponent) → base bs l ≡ Ok xs → base bs m ≡ Ok ys → Decides (Agree bs l m) (same_all xs ys)
   base_decides bs l m xs ys p q = same_decides l m (take_out (base_exact bs l) p) (take_out (base_exact bs m) q)
 
   -- and all zero exactly where the unit agrees with the scalar
-  pub base-nought : (bs : List (ℕ → Exponent)) (l : List Factor) (xs : List Exponent) → base bs l ≡ given xs → Decides (Agree bs l []) (all_nought xs)
+  pub base-nought : (bs : List (ℕ → Exponent)) (l : List Factor) (xs : List Exponent) → base bs l ≡ Ok xs → Decides (Agree bs l []) (all_nought xs)
   base-nought bs l xs p = nought_decides l (take_out (base_exact bs l) p)
 
   pub agree_map : (bs : List (ℕ → Exponent)) (l m k n : List Factor) → ((b : ℕ → Exponent) → exact W l b ≡ exact W m b → exact W k b ≡ exact W n b) → Agree bs l m → Agree bs k n

@@ -1,23 +1,21 @@
 -- Canonical forms as code hands them over: a resolved list's is resolved; and how the comparison of two ends.
-use mathlib.Core.Path.{◌≡◌, refl, sym, ap, ◌∙◌}
-use mathlib.Core.Bool.{true, false}
+use mathlib.Core.Path.{◌≡◌, sym, ap, ◌∙◌}
+use mathlib.Core.Bool.{Bool}
 use mathlib.Core.List.{List, [], ◌∷◌}
 use Prim.Native.Nat.{ℕ, suc, ◌+◌, ◌≤◌, Ordering}
 use native.Mathlib.Omega.{arith}
 use lib.ListN.{length}
-use Rattle.exponents.specs.Outcome.{Outcome, given, apply}
+use Rattle.exponents.specs.Outcome.{Refusal, Outcome, Ok, Err, apply}
 use Rattle.exponents.specs.Fractions.{add?}
-use Rattle.exponents.proofs.Holds.{holds_all, Holds, held, take_out, holds_map, holds_bind, bind_given, bind_refused}
-use Rattle.exponents.proofs.Numbers.{Refuses, struct_answers, struct_refuses}
+use Rattle.exponents.proofs.Holds.{holds_all, Holds, held, take_out, holds_map, holds_bind, bind_given}
+use Rattle.exponents.proofs.Numbers.{apply_answers, apply_refuses}
 use Rattle.units.specs.declared.Factor.{Factor}
 use Rattle.tables.specs.Held.{View, pack_items, Stands, Resolved}
 use Rattle.tables.specs.declared.Items.{Items}
 use Rattle.tables.specs.Order.{Atom}
 use Rattle.canonical.specs.Canonical.{place, insert, gather, nonzero, canon, same_list}
 use Rattle.canonical.specs.Held.{form_of}
-use Rattle.canonical.specs.Equality.{equal, verdict_of}
-use Rattle.canonical.specs.declared.form.Form.{Form}
-use Rattle.canonical.specs.declared.equality.Verdict.TheVariants.{Yes, No, Refused}
+use Rattle.canonical.specs.Equality.{equal}
 use Rattle.canonical.proofs.Keeping.{drop-short, canon_kept}
 use Rattle.canonical.proofs.Agree.{canon_atoms}
 
@@ -52,7 +50,7 @@ module _ (cmp : Atom → Atom → Ordering) where
   canon_short l = holds_map _ (gather-short (length l) [] l (omega arith)) λ m h. omega (arith, nonzero-short m)
 
 -- ---- and resolved if its list is
-pub canon_resolved : (v : View) (l : Items) (fs cs : List Factor) → Resolved v l fs → canon v.order fs ≡ given cs → (m : Items) → m ≡ pack_items v cs → Resolved v m cs
+pub canon_resolved : (v : View) (l : Items) (fs cs : List Factor) → Resolved v l fs → canon v.order fs ≡ Ok cs → (m : Items) → m ≡ pack_items v cs → Resolved v m cs
 canon_resolved v l fs cs r e m p =
     let n = take_out (canon_short v.order fs) e in
     record {
@@ -64,44 +62,23 @@ canon_resolved v l fs cs r e m p =
     }
 
 -- ---- what is handed over of a form
-pub record Formed (v : View) (o : Outcome (List Factor)) (x : Form) : Type 0 where
+pub record Formed (v : View) (o : Outcome (List Factor)) (x : Items) : Type 0 where
   pub answer : List Factor
-  pub is : o ≡ given answer
-  pub list : Resolved v x.list answer
+  pub is : o ≡ Ok answer
+  pub list : Resolved v x answer
 
 module _ (v : View) where
   -- `law` says that what answers is resolved, as `canon_resolved` does
-  pub formed : (o : Outcome (List Factor)) (x : Form) → ((c : List Factor) → o ≡ given c → (m : Items) → m ≡ pack_items v c → Resolved v m c) → x ≡ form_of v o → x.refusal ≡ 0 → Formed v o x
-  formed o x law e h =
-      let a = struct_answers (form_of v) (λ (y : Form). y.refusal) (λ c. refl) (λ r. refl) o x e h in
-      record { answer = a.answer; is = a.is; list = law a.answer a.is x.list (ap (λ (y : Form). y.list) (e ∙ ap (form_of v) a.is)) }
+  pub formed : (o : Outcome (List Factor)) (x : Items) → ((c : List Factor) → o ≡ Ok c → (m : Items) → m ≡ pack_items v c → Resolved v m c) → ◌≡◌ {A = Outcome Items} (Ok x) (form_of v o) → Formed v o x
+  formed o x law e = let a = apply_answers (pack_items v) o x (sym e) in record { answer = a.answer; is = a.is; list = law a.answer a.is x (sym a.made) }
 
-  pub canon_formed : (l : Items) (fs : List Factor) (x : Form) → Resolved v l fs → x ≡ form_of v (canon v.order fs) → x.refusal ≡ 0 → Formed v (canon v.order fs) x
+  pub canon_formed : (l : Items) (fs : List Factor) (x : Items) → Resolved v l fs → ◌≡◌ {A = Outcome Items} (Ok x) (form_of v (canon v.order fs)) → Formed v (canon v.order fs) x
   canon_formed l fs x r = formed (canon v.order fs) x λ c. canon_resolved v l fs c r
 
-  pub unformed : (o : Outcome (List Factor)) (x : Form) → x ≡ form_of v o → (x.refusal ≡ 0 → ⊥) → Refuses o x.refusal
-  unformed = struct_refuses (form_of v) (λ (y : Form). y.refusal) (λ c. refl) (λ r. refl)
+  pub unformed : (o : Outcome (List Factor)) (r : Refusal) → ◌≡◌ {A = Outcome Items} (Err r) (form_of v o) → o ≡ Err r
+  unformed o r e = apply_refuses (pack_items v) o r (sym e)
 
 -- ---- how the comparison ends
-module _ (cmp : Atom → Atom → Ordering) (l m : List Factor) where
-  pub first_stops : (n : ℕ) → Refuses (canon cmp l) n → Refused n ≡ verdict_of (equal cmp l m)
-  unfolding equal
-  first_stops n r = ap Refused (sym r.numbered) ∙ sym (ap verdict_of (bind_refused _ r.is))
-
-  module _ (c : List Factor) (p : canon cmp l ≡ given c) where
-    goes : apply (same_list cmp c) (canon cmp m) ≡ equal cmp l m
-    unfolding equal
-    goes = sym (bind_given _ p)
-
-    pub second_stops : (n : ℕ) → Refuses (canon cmp m) n → Refused n ≡ verdict_of (equal cmp l m)
-    second_stops n r = ap Refused (sym r.numbered) ∙ ap (λ o. verdict_of (apply (same_list cmp c) o)) (sym r.is) ∙ ap verdict_of goes
-
-    module _ (d : List Factor) (q : canon cmp m ≡ given d) where
-      says : given (same_list cmp c d) ≡ equal cmp l m
-      says = ap (apply (same_list cmp c)) (sym q) ∙ goes
-
-      pub says_yes : true ≡ same_list cmp c d → Yes ≡ verdict_of (equal cmp l m)
-      says_yes e = ap (λ t. verdict_of (given t)) e ∙ ap verdict_of says
-
-      pub says_no : false ≡ same_list cmp c d → No ≡ verdict_of (equal cmp l m)
-      says_no e = ap (λ t. verdict_of (given t)) e ∙ ap verdict_of says
+pub says : (cmp : Atom → Atom → Ordering) (l m c d : List Factor) → canon cmp l ≡ Ok c → canon cmp m ≡ Ok d → ◌≡◌ {A = Outcome Bool} (Ok (same_list cmp c d)) (equal cmp l m)
+unfolding equal
+says cmp l m c d p q = sym (bind_given _ p ∙ ap (apply (same_list cmp c)) q)

@@ -2,7 +2,7 @@
 use mathlib.Core.Path.{◌≡◌, sym, ◌∙◌, ap, ap₂}
 use mathlib.Core.List.{List, ◌++◌, map}
 use Prim.Native.Nat.{ℕ, Ordering}
-use Rattle.exponents.specs.Outcome.{Outcome, given, each}
+use Rattle.exponents.specs.Outcome.{Outcome, Ok, each}
 use Rattle.exponents.specs.Fractions.{neg, add?, mul?}
 use Rattle.exponents.specs.declared.Exponent.{Exponent}
 use Rattle.exponents.proofs.Holds.{Holds, take_out, holds_imp, holds_both}
@@ -18,7 +18,7 @@ use Rattle.canonical.proofs.Algebra.{term, exact, exact_join, exact_inverse, exa
 
 -- x is the base exponent of l at b, as 01 works it out
 abbrev pub Has : (ℕ → Exponent) → List Factor → Exponent → Type 0
-Has b l x = base_at l b ≡ given x
+Has b l x = base_at l b ≡ Ok x
 
 module _ (W : Value) (b : ℕ → Exponent) where
   term_is : (f : Factor) → Holds (λ t. worth W t ≡ term W b f) (mul? f.exponent (b f.row))
@@ -56,7 +56,7 @@ module _ (W : Value) (b : ℕ → Exponent) where
       h W.one ∙ ap₂ W.add (has_worth l x p) (W.neg_act y W.one ∙ ap W.opp (has_worth m y q)) ∙ sym (exact_over W l m b))
 
   -- of a power the multiple
-  pub power : (e : Exponent) (l p : List Factor) (x z : Exponent) → each (raised e) l ≡ given p → Has b l x → Has b p z → Holds (λ s. z ≡ s) (mul? e x)
+  pub power : (e : Exponent) (l p : List Factor) (x z : Exponent) → each (raised e) l ≡ Ok p → Has b l x → Has b p z → Holds (λ s. z ≡ s) (mul? e x)
   power e l p x z g q r =
       has_is p z r (W.mul?-low e x)
       (holds_imp (W.mul?-act e x) λ s h. h W.one ∙ ap (W.act e) (has_worth l x q) ∙ sym (take_out (exact_power W e l b) g))
@@ -67,9 +67,9 @@ module _ (W : Value) (b : ℕ → Exponent) where
 
   module _ (cmp : Atom → Atom → Ordering) (O : Total cmp) where
     -- of the canonical form the same
-    pub canonical : (l c : List Factor) (x y : Exponent) → canon cmp l ≡ given c → Has b l x → Has b c y → x ≡ y
+    pub canonical : (l c : List Factor) (x y : Exponent) → canon cmp l ≡ Ok c → Has b l x → Has b c y → x ≡ y
     canonical l c x y e p q = has_same l c x y p q (sym (take_out (exact_canon W cmp O l b) e))
 
     -- lists with the same canonical form have the same base exponents
-    pub equal : (l m c : List Factor) (x y : Exponent) → canon cmp l ≡ given c → canon cmp m ≡ given c → Has b l x → Has b m y → x ≡ y
+    pub equal : (l m c : List Factor) (x y : Exponent) → canon cmp l ≡ Ok c → canon cmp m ≡ Ok c → Has b l x → Has b m y → x ≡ y
     equal l m c x y d e p q = has_same l m x y p q (exact_equal W cmp O l m c d e b)

@@ -1,6 +1,6 @@
 -- The calls by their codes (the byte form, "Calls"): a list has one line for each.
 use Rattle.std.specs.Prelude.{List, [], ◌∷◌, ℕ, eqb}
-use Rattle.exponents.specs.Outcome.{Outcome, refused, SHAPE}
+use Rattle.exponents.specs.Outcome.{Outcome, Err, SHAPE}
 use Rattle.exponents.specs.Words.{pick}
 
 -- the number of a call's arguments, the table among them, and its answer to three byte strings, of which it reads so many
@@ -20,7 +20,7 @@ three n f = record { code = n; arity = 3; answer = f }
 
 -- what stands for a code that is no call's: no arguments, and an answer that is never asked for
 abbrev pub no_call : ℕ → Call
-no_call n = record { code = n; arity = 0; answer = λ a b c. refused SHAPE }
+no_call n = record { code = n; arity = 0; answer = λ a b c. Err SHAPE }
 
 unfoldable pub look : List Call → ℕ → Call
 look [] n = no_call n

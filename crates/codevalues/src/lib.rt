@@ -6,21 +6,24 @@ ghost use Rattle.replies.specs.Held.{Replied};
 ghost use Rattle.codes.specs.Codes.{look};
 ghost use Rattle.codevalues.specs.Calls.{calls};
 
-use exponents::refusals::SHAPE;
+use exponents::refusals::Refusal;
 use replies::Reply;
 
-// By code, how many arguments a call has: 0 for none of these.
-const ARITIES: [u32; 24] = [
-    0, 0, 0, 0, 0, 0, 0, 0, 2, 3, 3, 3, 3, 3, 3, 2, 2, 3, 3, 0, 0, 0, 0, 2,
-];
-
+// Kept: the byte form numbers its calls; an enum of them would be made from the number and matched once more, to the same arms.
+// How many arguments the call with this code has: 0 for none of these.
+#[tactic(auto, unfolding(codes::specs::Codes::look, crate::specs::Calls::calls))]
 pub fn arity(code: u32) -> u32
     ensures { (result ≡ (look calls code).arity) × (result ≤ 3) }
 {
-    if code < 24 { ARITIES[code as usize] } else { 0 }
+    match code {
+        8 | 15 | 16 | 23 => 2,
+        9 | 10 | 11 | 12 | 13 | 14 | 17 | 18 => 3,
+        _ => 0,
+    }
 }
 
 // The call with this code; its arguments are the first of these.
+#[tactic(auto, unfolding(codes::specs::Codes::look, crate::specs::Calls::calls, exponents::specs::Outcome::bind, replies::specs::Replies::sent))]
 pub fn call(code: u32, a: &[u8], b: &[u8], c: &[u8], out: &mut [u8]) -> Reply
     ensures { Replied out.old ((look calls code).answer a.now b.now c.now) result out.new }
 {
@@ -37,6 +40,6 @@ pub fn call(code: u32, a: &[u8], b: &[u8], c: &[u8], out: &mut [u8]) -> Reply
         17 => askvalues::equal(a, b, c, out),
         18 => askvalues::compare(a, b, c, out),
         23 => askvalues::no_simplify(a, b, out),
-        _ => replies::refused(SHAPE),
+        _ => Err(Refusal::Shape),
     }
 }

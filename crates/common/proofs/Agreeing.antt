@@ -3,6 +3,7 @@ use mathlib.Core.Path.{◌≡◌, refl, ap₂}
 use mathlib.Core.List.{List, [], ◌∷◌, map}
 use Prim.Native.Nat.{Ordering}
 use Rattle.exponents.specs.Outcome.{apply}
+use Rattle.exponents.specs.declared.Exponent.{Exponent}
 use Rattle.exponents.specs.Fractions.{nought, same}
 use Rattle.exponents.proofs.Holds.{Holds}
 use Rattle.units.specs.declared.Factor.{Factor}
@@ -11,18 +12,18 @@ use Rattle.tables.specs.Order.{Atom, atom, of}
 use Rattle.canonical.specs.Canonical.{drop_if}
 use Rattle.canonical.proofs.Keeping.{all_append}
 use Rattle.canonical.proofs.Agree.{Atoms, AgreeOn}
-use Rattle.common.specs.declared.Shared.{Shared}
-use Rattle.common.specs.declared.Shared.TheVariants.{Takes, Nothing}
+use Rattle.std.specs.declared.option.Option.{Option}
+use Rattle.std.specs.declared.option.Option.TheVariants.{Some, None}
 use Rattle.common.specs.Common.{meet, if_same, with_shared, shared_with_lem, common, over}
 use Rattle.common.specs.Held.{taken, lessen}
 use Rattle.common.proofs.Shaped.{lessen_keeps}
 
 -- ---- only atoms of the given lists
 module _ (P : Atom → Type 0) where
-  shared_atoms : (s : Shared) (f : Factor) (l : List Factor) → P (atom f) → Atoms P l → Atoms P (with_shared s f l)
+  shared_atoms : (s : Option Exponent) (f : Factor) (l : List Factor) → P (atom f) → Atoms P l → Atoms P (with_shared s f l)
   unfolding with_shared
-  shared_atoms (Takes e) f l p h = (p, h)
-  shared_atoms Nothing f l p h = h
+  shared_atoms (Some e) f l p h = (p, h)
+  shared_atoms None f l p h = h
 
   pub common_atoms : (cmp : Atom → Atom → Ordering) (l m : List Factor) → Atoms P l → Atoms P (common cmp l m)
   unfolding common

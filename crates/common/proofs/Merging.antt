@@ -5,7 +5,8 @@ use mathlib.Core.List.{List, [], ◌∷◌, ◌++◌, map}
 use mathlib.Core.Logic.{◌⊎◌, inl, inr}
 use Prim.Native.Nat.{ℕ, Ordering}
 use native.Mathlib.Omega.{arith}
-use Rattle.exponents.specs.Outcome.{Outcome, given, refused, bind, apply}
+use Rattle.exponents.specs.Outcome.{Outcome, Ok, Err, bind, apply}
+use Rattle.exponents.specs.declared.Exponent.{Exponent}
 use Rattle.exponents.specs.Fractions.{nought, add?, same}
 use Rattle.exponents.proofs.Following.{apply_same, bind_same, apply_apply, bind_apply, apply_bind, bind_bind}
 use Rattle.exponents.proofs.Holds.{take_out, bind_given}
@@ -17,8 +18,8 @@ use Rattle.tables.specs.Order.{Atom, atom, of}
 use Rattle.canonical.specs.Canonical.{place, insert, gather, drop_if, nonzero, canon}
 use Rattle.canonical.proofs.Sorted.{Above, Rising, above_trans, gather_rising, nonzero-above, canon_canonical}
 use Rattle.canonical.proofs.Total.{Weak}
-use Rattle.common.specs.declared.Shared.{Shared}
-use Rattle.common.specs.declared.Shared.TheVariants.{Takes, Nothing}
+use Rattle.std.specs.declared.option.Option.{Option}
+use Rattle.std.specs.declared.option.Option.TheVariants.{Some, None}
 use Rattle.common.specs.Common.{meet, if_same, with_shared, shared_with_lem, common, over}
 use Rattle.common.specs.Held.{taken, lessen}
 use Rattle.common.proofs.Lessening.{lessen_none}
@@ -136,20 +137,20 @@ module _ (cmp : Atom → Atom → Ordering) (O : Weak cmp) where
   merges (y ∷ ys) (x ∷ xs) r s h = turn y ys x xs r s _ refl h (merges ys xs r.1 s.1) (merges ys (x ∷ xs) r.1 s)
 
   -- ---- the common factors, inverted, rise too, and each is found in the second list
-  with_above : (k : Atom) (s : Shared) (f : Factor) (l : List Factor) → cmp k (atom f) ≡ Ordering.lt → Above cmp k (map inverted l) → Above cmp k (map inverted (with_shared s f l))
+  with_above : (k : Atom) (s : Option Exponent) (f : Factor) (l : List Factor) → cmp k (atom f) ≡ Ordering.lt → Above cmp k (map inverted l) → Above cmp k (map inverted (with_shared s f l))
   unfolding with_shared inverted with_exponent
-  with_above k (Takes e) f l p a = (p, a)
-  with_above k Nothing f l p a = a
+  with_above k (Some e) f l p a = (p, a)
+  with_above k None f l p a = a
 
   common_above : (k : Atom) (l m : List Factor) → Above cmp k l → Above cmp k (map inverted (common cmp l m))
   unfolding common
   common_above k [] m a = tt
   common_above k (f ∷ l) m a = with_above k _ f (common cmp l m) a.0 (common_above k l m a.1)
 
-  with_rising : (s : Shared) (f : Factor) (l : List Factor) → Above cmp (atom f) (map inverted l) → Rising cmp (map inverted l) → Rising cmp (map inverted (with_shared s f l))
+  with_rising : (s : Option Exponent) (f : Factor) (l : List Factor) → Above cmp (atom f) (map inverted l) → Rising cmp (map inverted l) → Rising cmp (map inverted (with_shared s f l))
   unfolding with_shared inverted with_exponent
-  with_rising (Takes e) f l a r = (a, r)
-  with_rising Nothing f l a r = r
+  with_rising (Some e) f l a r = (a, r)
+  with_rising None f l a r = r
 
   pub common_rising : (l m : List Factor) → Rising cmp l → Rising cmp (map inverted (common cmp l m))
   unfolding common
@@ -157,19 +158,19 @@ module _ (cmp : Atom → Atom → Ordering) (O : Weak cmp) where
   common_rising (f ∷ l) m r = with_rising _ f (common cmp l m) (common_above (atom f) l m r.0) (common_rising l m r.1)
 
   -- only what is found is shared
-  abbrev FoundIf : Shared → Atom → List Factor → Type 0
-  FoundIf (Takes e) k m = Found k m
-  FoundIf Nothing k m = Unit {0}
+  abbrev FoundIf : Option Exponent → Atom → List Factor → Type 0
+  FoundIf (Some e) k m = Found k m
+  FoundIf None k m = Unit {0}
 
-  found_later : (s : Shared) (k : Atom) (g : Factor) (m : List Factor) → FoundIf s k m → FoundIf s k (g ∷ m)
-  found_later (Takes e) k g m h = inr h
-  found_later Nothing k g m h = tt
+  found_later : (s : Option Exponent) (k : Atom) (g : Factor) (m : List Factor) → FoundIf s k m → FoundIf s k (g ∷ m)
+  found_later (Some e) k g m h = inr h
+  found_later None k g m h = tt
 
-  found_here : (s : Shared) (k : Atom) (g : Factor) (m : List Factor) → cmp k (atom g) ≡ Ordering.eq → FoundIf s k (g ∷ m)
-  found_here (Takes e) k g m p = inl p
-  found_here Nothing k g m p = tt
+  found_here : (s : Option Exponent) (k : Atom) (g : Factor) (m : List Factor) → cmp k (atom g) ≡ Ordering.eq → FoundIf s k (g ∷ m)
+  found_here (Some e) k g m p = inl p
+  found_here None k g m p = tt
 
-  if_found : (o : Ordering) (a b : Shared) (k : Atom) (g : Factor) (m : List Factor) → cmp k (atom g) ≡ o → FoundIf b k m → FoundIf (if_same o a b) k (g ∷ m)
+  if_found : (o : Ordering) (a b : Option Exponent) (k : Atom) (g : Factor) (m : List Factor) → cmp k (atom g) ≡ o → FoundIf b k m → FoundIf (if_same o a b) k (g ∷ m)
   unfolding if_same
   if_found Ordering.lt a b k g m p h = found_later b k g m h
   if_found Ordering.eq a b k g m p h = found_here a k g m p
@@ -180,10 +181,10 @@ module _ (cmp : Atom → Atom → Ordering) (O : Weak cmp) where
   shared_found f [] = tt
   shared_found f (g ∷ m) = if_found _ (meet f.exponent g.exponent) (shared_with_lem cmp f m) (atom f) g m refl (shared_found f m)
 
-  with_found : (s : Shared) (f : Factor) (l m : List Factor) → FoundIf s (atom f) m → AllFound (map inverted l) m → AllFound (map inverted (with_shared s f l)) m
+  with_found : (s : Option Exponent) (f : Factor) (l m : List Factor) → FoundIf s (atom f) m → AllFound (map inverted l) m → AllFound (map inverted (with_shared s f l)) m
   unfolding with_shared inverted with_exponent
-  with_found (Takes e) f l m p h = (p, h)
-  with_found Nothing f l m p h = h
+  with_found (Some e) f l m p h = (p, h)
+  with_found None f l m p h = h
 
   pub common_found : (l m : List Factor) → AllFound (map inverted (common cmp l m)) m
   unfolding common
@@ -217,24 +218,24 @@ module _ (cmp : Atom → Atom → Ordering) (O : Weak cmp) where
       ∙ sym (bind_bind (insert cmp x a) (λ b. gather cmp b l) (λ b. gather cmp b m))
 
   -- a list whose canonical form is c, and factors that rise and are found in that
-  canon_join : (o : Outcome (List Factor)) (m c xs : List Factor) → gather cmp [] m ≡ o → apply nonzero o ≡ given c → Rising cmp xs → AllFound xs c → canon cmp (m ++ xs) ≡ lessen cmp c xs
+  canon_join : (o : Outcome (List Factor)) (m c xs : List Factor) → gather cmp [] m ≡ o → apply nonzero o ≡ Ok c → Rising cmp xs → AllFound xs c → canon cmp (m ++ xs) ≡ lessen cmp c xs
   unfolding canon
-  canon_join (given a) m c xs g e r h =
+  canon_join (Ok a) m c xs g e r h =
       let n : nonzero a ≡ c = cc in
       ap (apply nonzero) (gather_join [] m xs ∙ bind_given _ g)
       ∙ merges a xs (take_out (gather_rising cmp O [] m tt) g) r (subst (λ (c : List Factor). AllFound xs c) (sym n) h)
       ∙ ap (λ c. lessen cmp c xs) n
-  canon_join (refused w) m c xs g e r h = absurd (let z : ◌≡◌ {A = ℕ} 0 1 = cc in omega arith)
+  canon_join (Err w) m c xs g e r h = absurd (let z : ◌≡◌ {A = ℕ} 0 1 = cc in omega arith)
 
   -- l has the canonical form cl: a list whose form is ck, over what cl shares with cm, is that form lessened, if the shared factors are found in it
-  over_found : (l k cl cm ck : List Factor) → canon cmp l ≡ given cl → canon cmp k ≡ given ck → AllFound (map inverted (common cmp cl cm)) ck → canon cmp (over k (common cmp cl cm)) ≡ lessen cmp ck (map inverted (common cmp cl cm))
+  over_found : (l k cl cm ck : List Factor) → canon cmp l ≡ Ok cl → canon cmp k ≡ Ok ck → AllFound (map inverted (common cmp cl cm)) ck → canon cmp (over k (common cmp cl cm)) ≡ lessen cmp ck (map inverted (common cmp cl cm))
   unfolding canon
   over_found l k cl cm ck p q h = canon_join (gather cmp [] k) k ck (map inverted (common cmp cl cm)) refl q (common_rising cl cm (take_out (canon_canonical cmp O l) p).rising) h
 
   -- the target over the common factors of both forms, merged, is the target's form lessened
-  pub over_common : (l m cl cm : List Factor) → canon cmp l ≡ given cl → canon cmp m ≡ given cm → canon cmp (over m (common cmp cl cm)) ≡ lessen cmp cm (map inverted (common cmp cl cm))
+  pub over_common : (l m cl cm : List Factor) → canon cmp l ≡ Ok cl → canon cmp m ≡ Ok cm → canon cmp (over m (common cmp cl cm)) ≡ lessen cmp cm (map inverted (common cmp cl cm))
   over_common l m cl cm p q = over_found l m cl cm cm p q (common_found cl cm)
 
   -- and so is the own list
-  pub own_common : (l cl cm : List Factor) → canon cmp l ≡ given cl → canon cmp (over l (common cmp cl cm)) ≡ lessen cmp cl (map inverted (common cmp cl cm))
+  pub own_common : (l cl cm : List Factor) → canon cmp l ≡ Ok cl → canon cmp (over l (common cmp cl cm)) ≡ lessen cmp cl (map inverted (common cmp cl cm))
   own_common l cl cm p = over_found l l cl cm cl p p (common_own cl cm)

@@ -3,7 +3,7 @@ use mathlib.Core.Path.{◌≡◌, sym, ◌∙◌, ap}
 use mathlib.Core.List.{List, map}
 use native.Mathlib.Omega.{arith}
 use lib.ListN.{length-map}
-use Rattle.exponents.specs.Outcome.{given}
+use Rattle.exponents.specs.Outcome.{Ok}
 use Rattle.exponents.proofs.Holds.{take_out}
 use Rattle.units.specs.declared.Factor.{Factor}
 use Rattle.units.specs.Lists.{inverted}
@@ -41,7 +41,7 @@ module _ (v : View) {l m : Items} (fs gs : List Factor) (rl : Resolved v l fs) (
     placed = rl.placed;
   }
 
-  pub lessen_resolved : (ts : List Factor) → lessen v.order fs gs ≡ given ts → (r : Items) → r ≡ pack_items v ts → Resolved v r ts
+  pub lessen_resolved : (ts : List Factor) → lessen v.order fs gs ≡ Ok ts → (r : Items) → r ≡ pack_items v ts → Resolved v r ts
   lessen_resolved ts p r e = record {
     is = e;
     short = omega (arith, rl.short, take_out (lessen_short v.order fs gs) p);
@@ -51,7 +51,7 @@ module _ (v : View) {l m : Items} (fs gs : List Factor) (rl : Resolved v l fs) (
   }
 
   -- ---- either list over the common factors of both forms, merged, is its form lessened
-  module _ (cl cm : List Factor) (p : canon v.order fs ≡ given cl) (q : canon v.order gs ≡ given cm) where
+  module _ (cl cm : List Factor) (p : canon v.order fs ≡ Ok cl) (q : canon v.order gs ≡ Ok cm) where
     abbrev shared : List Factor
     shared = common v.order cl cm
 

@@ -19,24 +19,24 @@ use Rattle.exponents.specs.Words.{All}
 use Rattle.tables.specs.Order.{Atom, atom, of}
 use Rattle.exponents.proofs.Words.{pick_is}
 use Rattle.canonical.proofs.Keeping.{each_faultless, none_faulty, Kept, kept_with, drop_keeps, drop-short}
-use Rattle.common.specs.declared.Shared.{Shared}
-use Rattle.common.specs.declared.Shared.TheVariants.{Takes, Nothing}
+use Rattle.std.specs.declared.option.Option.{Option}
+use Rattle.std.specs.declared.option.Option.TheVariants.{Some, None}
 use Rattle.common.specs.Common.{meet, if_same, with_shared, shared_with_lem, common}
 use Rattle.common.specs.Held.{taken, lessen}
 
 -- ---- what two factors share is one of their exponents: E holds of exponents
 module _ (E : Exponent → Type 0) where
-  abbrev pub Has : Shared → Type 0
-  Has (Takes e) = E e
-  Has Nothing = Unit {0}
+  abbrev pub Has : Option Exponent → Type 0
+  Has (Some e) = E e
+  Has None = Unit {0}
 
   pub meet_has : (x y : Exponent) → E x → E y → Has (meet x y)
   unfolding meet
   meet_has x y p q =
-      pick_is Has (less nought x && less nought y) (pick_is Has (less x y) {a = Takes x} {b = Takes y} p q)
-      (pick_is Has (less x nought && less y nought) (pick_is Has (less x y) {a = Takes y} {b = Takes x} q p) tt)
+      pick_is Has (less nought x && less nought y) (pick_is Has (less x y) {a = Some x} {b = Some y} p q)
+      (pick_is Has (less x nought && less y nought) (pick_is Has (less x y) {a = Some y} {b = Some x} q p) tt)
 
-  if_has : (o : Ordering) (a b : Shared) → Has a → Has b → Has (if_same o a b)
+  if_has : (o : Ordering) (a b : Option Exponent) → Has a → Has b → Has (if_same o a b)
   unfolding if_same
   if_has Ordering.lt a b p q = q
   if_has Ordering.eq a b p q = p
@@ -44,10 +44,10 @@ module _ (E : Exponent → Type 0) where
 
   -- P holds of factors: their exponents have E, and any other with E keeps P
   module _ (P : Factor → Type 0) (exponent : (f : Factor) → P f → E f.exponent) (other : (f : Factor) (e : Exponent) → P f → E e → P (of (atom f) e)) where
-    with_all : (s : Shared) (f : Factor) (l : List Factor) → Has s → P f → All P l → All P (with_shared s f l)
+    with_all : (s : Option Exponent) (f : Factor) (l : List Factor) → Has s → P f → All P l → All P (with_shared s f l)
     unfolding with_shared
-    with_all (Takes e) f l p h k = (other f e h p, k)
-    with_all Nothing f l p h k = k
+    with_all (Some e) f l p h k = (other f e h p, k)
+    with_all None f l p h k = k
 
     module _ (cmp : Atom → Atom → Ordering) where
       shared_has : (f : Factor) (m : List Factor) → E f.exponent → All P m → Has (shared_with_lem cmp f m)
@@ -61,10 +61,10 @@ module _ (E : Exponent → Type 0) where
       common_all [] m h k = tt
       common_all (f ∷ l) m h k = with_all _ f (common cmp l m) (shared_has f m (exponent f h.0) k) h.0 (common_all l m h.1 k)
 
-with_short : (s : Shared) (f : Factor) (l : List Factor) (n : ℕ) → length l ≤ n → length (with_shared s f l) ≤ suc n
+with_short : (s : Option Exponent) (f : Factor) (l : List Factor) (n : ℕ) → length l ≤ n → length (with_shared s f l) ≤ suc n
 unfolding with_shared
-with_short (Takes e) f l n h = omega arith
-with_short Nothing f l n h = omega arith
+with_short (Some e) f l n h = omega arith
+with_short None f l n h = omega arith
 
 -- ---- inverted
 inverted_keeps : (f : Factor) → Kept f → Kept (inverted f)
@@ -86,7 +86,7 @@ module _ (cmp : Atom → Atom → Ordering) where
   abbrev Fine : Exponent → Type 0
   Fine e = faulty e ≡ false
 
-  pub taken_sound : (f : Factor) (m : List Factor) (e : Exponent) → faulty f.exponent ≡ false → some factor_fault m ≡ false → shared_with_lem cmp f m ≡ Takes e → faulty e ≡ false
+  pub taken_sound : (f : Factor) (m : List Factor) (e : Exponent) → faulty f.exponent ≡ false → some factor_fault m ≡ false → shared_with_lem cmp f m ≡ Some e → faulty e ≡ false
   taken_sound f m e p h t = subst (Has Fine) t (shared_has Fine Kept exponent_sound kept_with cmp f m p (each_faultless factor_fault m h))
 
   pub common_kept : (l m : List Factor) → some factor_fault l ≡ false → some factor_fault m ≡ false → some factor_fault (common cmp l m) ≡ false

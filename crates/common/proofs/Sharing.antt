@@ -1,54 +1,39 @@
 -- What two canonical lists share, as code finds it: a walk through the first that fills an array with what is shared, and for each factor one through the second.
 use mathlib.Core.Path.{◌≡◌, refl, sym, ap, ap₂, ◌∙◌, subst}
-use mathlib.Core.Bool.{Bool, true, false, ◌&&◌}
+use mathlib.Core.Bool.{true, false, true≢false, false≢true}
 use mathlib.Core.List.{List, [], ◌∷◌, ◌++◌, map, map-append, append_assoc, append-nil}
 use Prim.Native.Nat.{ℕ, ◌+◌, ◌-◌, ◌≤◌, ◌<◌, Ordering}
 use lib.ListN.{length, drop, get_or, set, replicate, length-append, length-map, drop_of_length-le}
-use Rattle.exponents.specs.Fractions.{nought, less, faulty}
-use Rattle.exponents.specs.Held.{neg?, fraction_of}
+use Rattle.exponents.specs.Fractions.{faulty}
+use Rattle.exponents.specs.Outcome.{Ok}
+use Rattle.exponents.specs.Held.{neg?}
 use Rattle.exponents.specs.declared.Exponent.{Exponent}
-use Rattle.exponents.specs.declared.Fraction.TheVariants.{Exact}
 use Rattle.exponents.proofs.Numbers.{negated_is}
 use Rattle.units.specs.declared.Factor.{Factor}
 use Rattle.units.specs.Lists.{no_factor, some, factor_fault, with_exponent, inverted}
 use Rattle.units.proofs.Laws.{stored}
-use Rattle.exponents.specs.Words.{pick}
 use Rattle.tables.specs.Held.{View, item_of, no_item, pack_items, packed, by_place}
 use Rattle.tables.specs.declared.Item.{Item}
 use Rattle.tables.specs.declared.Items.{Items}
 use Rattle.exponents.proofs.Places.{rest}
 use Rattle.tables.specs.Order.{atom, of}
+use Rattle.keys.specs.Orders.{is_eq}
 use Rattle.canonical.specs.Held.{spots, with_factor}
 use Rattle.reduction.proofs.Resolved.{item_at, sound_at}
-use Rattle.common.specs.declared.Shared.{Shared}
-use Rattle.common.specs.declared.Shared.TheVariants.{Takes, Nothing}
+use Rattle.std.specs.declared.option.Option.{Option}
+use Rattle.std.specs.declared.option.Option.TheVariants.{Some, None}
 use Rattle.common.specs.Common.{meet, if_same, with_shared, shared_with_lem, common}
 use Rattle.common.proofs.Shaped.{taken_sound}
 
--- ---- the exponent that two have in common: each test as code has it
-module _ (x y : Exponent) {lower a b : Bool} (l : lower ≡ less x y) (p : a ≡ less nought x) (q : b ≡ less nought y) where
-  pub both_positive : (a && b) ≡ true → {t : Bool} → lower ≡ t → pick t (Takes x) (Takes y) ≡ meet x y
-  unfolding meet
-  both_positive u e = rw (sym l ∙ e, sym p, sym q, u)
-
-  module _ {c d : Bool} (r : c ≡ less x nought) (s : d ≡ less y nought) (u : (a && b) ≡ false) where
-    pub both_negative : (c && d) ≡ true → {t : Bool} → lower ≡ t → pick t (Takes y) (Takes x) ≡ meet x y
-    unfolding meet
-    both_negative w e = rw (sym l ∙ e, sym p, sym q, sym r, sym s, u, w)
-
-    pub unlike_signs : (c && d) ≡ false → Nothing ≡ meet x y
-    unfolding meet
-    unlike_signs w = rw (sym p, sym q, sym r, sym s, u, w)
-
 -- ---- an exponent that keeps its rule, negated: so is the factor
-pub inverted_item : (e : Exponent) → faulty e ≡ false → (x : Item) (n : Exponent) → fraction_of (neg? e) ≡ Exact n → with_factor x (of (atom x.factor) n) ≡ with_factor x (inverted (of (atom x.factor) e))
+pub inverted_item : (e : Exponent) → faulty e ≡ false → (x : Item) (n : Exponent) → Ok n ≡ neg? e → with_factor x (of (atom x.factor) n) ≡ with_factor x (inverted (of (atom x.factor) e))
 unfolding inverted with_exponent
 inverted_item e h x n p = ap (λ n. with_factor x (of (atom x.factor) n)) (negated_is e h n p)
 
 -- ---- one factor against a list: the places before i have nothing of its row and prefix
 module _ (v : View) (m : Items) (gs : List Factor) (is : m ≡ pack_items v gs) (p : ℕ) (f : Factor) (at : p ≡ v.place f.row) (i : ℕ)
     (so_far : shared_with_lem (by_place v) f gs ≡ shared_with_lem (by_place v) f (drop i gs)) where
-  pub shared_end : length gs ≤ i → Nothing ≡ shared_with_lem (by_place v) f gs
+  pub shared_end : length gs ≤ i → None ≡ shared_with_lem (by_place v) f gs
   unfolding shared_with_lem
   shared_end h = sym (so_far ∙ ap (shared_with_lem (by_place v) f) (drop_of_length-le gs h))
 
@@ -67,18 +52,23 @@ module _ (v : View) (m : Items) (gs : List Factor) (is : m ≡ pack_items v gs) 
         ∙ ap (shared_with_lem (by_place v) f) (rest gs no_factor i h)
         ∙ ap₂ (λ (o : Ordering) (x : Item). if_same o (meet f.exponent x.factor.exponent) (shared_with_lem (by_place v) f (drop (i + 1) gs))) q (sym x)
 
-    -- the search ended at e
-    pub shared_here : (e : ℕ) → e ≡ i → spots p f.prefix (get_or m.at e d).place (get_or m.at e d).factor.prefix ≡ Ordering.eq → meet f.exponent here.factor.exponent ≡ shared_with_lem (by_place v) f gs
-    unfolding if_same
-    shared_here e z q = sym (step (sym (ap (λ e. spots p f.prefix (get_or m.at e d).place (get_or m.at e d).factor.prefix) z) ∙ q))
+    pub shared_here : is_eq (spots p f.prefix here.place here.factor.prefix) ≡ true → meet f.exponent here.factor.exponent ≡ shared_with_lem (by_place v) f gs
+    unfolding if_same is_eq
+    shared_here q = sym (step refl ∙ go _ _ _ q)
+      where
+        go : (o : Ordering) (a b : Option Exponent) → is_eq o ≡ true → if_same o a b ≡ a
+        go Ordering.lt a b e = absurd (false≢true e)
+        go Ordering.eq a b e = refl
+        go Ordering.gt a b e = absurd (false≢true e)
 
-    pub shared_behind : spots p f.prefix here.place here.factor.prefix ≡ Ordering.lt → shared_with_lem (by_place v) f gs ≡ shared_with_lem (by_place v) f (drop (i + 1) gs)
-    unfolding if_same
-    shared_behind e = step e
-
-    pub shared_before : spots p f.prefix here.place here.factor.prefix ≡ Ordering.gt → shared_with_lem (by_place v) f gs ≡ shared_with_lem (by_place v) f (drop (i + 1) gs)
-    unfolding if_same
-    shared_before e = step e
+    pub shared_past : is_eq (spots p f.prefix here.place here.factor.prefix) ≡ false → shared_with_lem (by_place v) f gs ≡ shared_with_lem (by_place v) f (drop (i + 1) gs)
+    unfolding if_same is_eq
+    shared_past q = step refl ∙ go _ _ _ q
+      where
+        go : (o : Ordering) (a b : Option Exponent) → is_eq o ≡ false → if_same o a b ≡ b
+        go Ordering.lt a b e = refl
+        go Ordering.eq a b e = absurd (true≢false e)
+        go Ordering.gt a b e = refl
 
 -- ---- factors put one by one into an array of items
 -- the first k items are those of `done`, and the rest is clean
@@ -127,8 +117,8 @@ module _ (v : View) (fs gs : List Factor) (o : Items) (k i : ℕ) (s : Gathered 
       ∙ ap (pack_items v) (sym (s.so_far ∙ ap (λ l. s.done ++ map inverted (common (by_place v) l gs)) (drop_of_length-le fs h) ∙ append-nil s.done))
 
   -- x is the item that code reads, and w what it found to be shared
-  module _ (h : i < length fs) (x : Item) (is : x ≡ item_of v (get_or fs i no_factor)) (w : Shared) (shares : w ≡ shared_with_lem (by_place v) x.factor gs) where
-    turn : {t : Shared} → w ≡ t → map inverted (common (by_place v) fs gs) ≡ s.done ++ map inverted (with_shared t (get_or fs i no_factor) (common (by_place v) (drop (i + 1) fs) gs))
+  module _ (h : i < length fs) (x : Item) (is : x ≡ item_of v (get_or fs i no_factor)) (w : Option Exponent) (shares : w ≡ shared_with_lem (by_place v) x.factor gs) where
+    turn : {t : Option Exponent} → w ≡ t → map inverted (common (by_place v) fs gs) ≡ s.done ++ map inverted (with_shared t (get_or fs i no_factor) (common (by_place v) (drop (i + 1) fs) gs))
     unfolding common
     turn {t} e =
         let f = get_or fs i no_factor in
@@ -137,11 +127,11 @@ module _ (v : View) (fs gs : List Factor) (o : Items) (k i : ℕ) (s : Gathered 
         ∙ ap (λ l. s.done ++ map inverted (common (by_place v) l gs)) (rest fs no_factor i h)
         ∙ ap (λ t. s.done ++ map inverted (with_shared t f (common (by_place v) (drop (i + 1) fs) gs))) q
 
-    pub gathered_past : w ≡ Nothing → Gathered v fs gs o k (i + 1)
+    pub gathered_past : w ≡ None → Gathered v fs gs o k (i + 1)
     unfolding with_shared
     gathered_past e = record { done = s.done; filled = s.filled; so_far = turn e }
 
-    pub gathered_on : some factor_fault fs ≡ false → some factor_fault gs ≡ false → k < 16 → (e : Exponent) → w ≡ Takes e → (y : Item) (n : ℕ) →
+    pub gathered_on : some factor_fault fs ≡ false → some factor_fault gs ≡ false → k < 16 → (e : Exponent) → w ≡ Some e → (y : Item) (n : ℕ) →
         (faulty e ≡ false → y ≡ with_factor x (inverted (of (atom x.factor) e))) → Gathered v fs gs (record { at = set o.at k y; len = n }) (k + 1) (i + 1)
     unfolding with_shared inverted with_exponent
     gathered_on p q r e t y n made =

@@ -7,7 +7,7 @@ use native.Mathlib.Omega.{arith}
 use lib.IntN.{ℤ, pos}
 use lib.Ieee.{Float, to_bits, of_bits, mul, div, eq}
 use lib.Ieee as ieee
-use Rattle.exponents.specs.Outcome.{UNITS, Outcome, given, refused, bind, each}
+use Rattle.exponents.specs.Outcome.{UNITS, Outcome, Ok, Err, bind, each}
 use Rattle.exponents.specs.Outcome as outcome
 use Rattle.exponents.specs.Held.{worked}
 use Rattle.exponents.proofs.Rationals as rational
@@ -84,11 +84,11 @@ admits = refl
 abbrev conversion : List Factor → List Factor → Float → Outcome Float
 conversion l m v = convert (rules_in rows table) l m v
 
-minute-second : conversion (unit_of 2) (unit_of 1) one ≡ given sixty
+minute-second : conversion (unit_of 2) (unit_of 1) one ≡ Ok sixty
 unfolding computed
 minute-second = refl
 
-metre-second : conversion (unit_of 0) (unit_of 1) one ≡ refused UNITS
+metre-second : conversion (unit_of 0) (unit_of 1) one ≡ Err UNITS
 unfolding computed
 metre-second = refl
 
@@ -102,17 +102,17 @@ good_is = alone rows table
 -- one that refuses everything, or has any one answer for all, is not right
 pub not_one_answer : (o : Outcome Float) → Good (λ l m v. o) → ⊥
 not_one_answer o h =
-    let p : o ≡ given sixty = good_is (λ l m v. o) h (unit_of 2) (unit_of 1) one ∙ minute-second in
-    let q : o ≡ refused UNITS = good_is (λ l m v. o) h (unit_of 0) (unit_of 1) one ∙ metre-second in
+    let p : o ≡ Ok sixty = good_is (λ l m v. o) h (unit_of 2) (unit_of 1) one ∙ minute-second in
+    let q : o ≡ Err UNITS = good_is (λ l m v. o) h (unit_of 0) (unit_of 1) one ∙ metre-second in
     given_not_refused (sym p ∙ q)
 
 abbrev bits : Outcome Float → ℕ
-bits (given v) = to_bits ieee.binary64 v
-bits (refused r) = 0
+bits (Ok v) = to_bits ieee.binary64 v
+bits (Err r) = 0
 
 -- nor is one that hands the value back
-pub not_unconverted : Good (λ l m v. given v) → ⊥
+pub not_unconverted : Good (λ l m v. Ok v) → ⊥
 unfolding computed
 not_unconverted h =
-    let z : ◌≡◌ {A = ℕ} 0x3ff0_0000_0000_0000 0x404e_0000_0000_0000 = ap bits (good_is (λ l m v. given v) h (unit_of 2) (unit_of 1) one ∙ minute-second) in
+    let z : ◌≡◌ {A = ℕ} 0x3ff0_0000_0000_0000 0x404e_0000_0000_0000 = ap bits (good_is (λ l m v. Ok v) h (unit_of 2) (unit_of 1) one ∙ minute-second) in
     omega arith

@@ -3,7 +3,7 @@ use mathlib.Core.Path.{◌≡◌, refl, sym, ◌∙◌, ap, ap₂, subst}
 use mathlib.Core.Bool.{Bool, true, false, ◌||◌, or-true, true≢false}
 use mathlib.Core.Logic.{◌↔◌}
 use mathlib.Core.List.{List}
-use Rattle.exponents.specs.Outcome.{Refusal, UNITS, FRACTION, Outcome, given, refused, bind}
+use Rattle.exponents.specs.Outcome.{Refusal, UNITS, FRACTION, Outcome, Ok, Err, bind}
 use Rattle.exponents.specs.declared.Exponent.{Exponent}
 use Rattle.exponents.proofs.Holds.{Only, fine, only, only_out, take_out, either, bind_given, bind_refused}
 use Rattle.exponents.proofs.Halves.{OutOfRange}
@@ -25,7 +25,7 @@ use Rattle.conversion.proofs.Ready.{Ready}
 use Rattle.conversion.proofs.Reduction.{Over, reduction_decides, either_way, against_stops, against_units, against_value, stops_only}
 
 module _ {A : Type 0} where
-  choose_on : (t : Bool) (v : A) (o : Outcome A) → t ≡ true → choose t v o ≡ given v
+  choose_on : (t : Bool) (v : A) (o : Outcome A) → t ≡ true → choose t v o ≡ Ok v
   unfolding choose
   choose_on true v o e = refl
   choose_on false v o e = absurd (true≢false (sym e))
@@ -44,10 +44,10 @@ decided : {P C : Type 0} (t : Bool) → Decides P t → (P → C) → ((P → �
 decided t d f g = whether t (λ e. f (d.yea e)) (λ e. g (d.nay e))
 
 module _ {A : Type 0} (R : Rules A) (W : Value) (O : Total R.order) (ready : List Factor → Outcome (List Factor)) (K : Ready W ready) where
-  over-both : (l m c own : List Factor) → ready (over l c) ≡ given own → Over W l m c own (canon R.order (over m c))
+  over-both : (l m c own : List Factor) → ready (over l c) ≡ Ok own → Over W l m c own (canon R.order (over m c))
   over-both l m c own e = record { own_same = λ b. take_out (K.keeps (over l c) b) e; target-same = exact_canon W R.order O (over m c) }
 
-  both_answer : (l m cl cm : List Factor) (v : A) → canon R.order l ≡ given cl → canon R.order m ≡ given cm →
+  both_answer : (l m cl cm : List Factor) (v : A) → canon R.order l ≡ Ok cl → canon R.order m ≡ Ok cm →
       convert_by R ready l m v ≡ choose (R.numbers.is_zero v || same_list R.order cl cm) v (unlike R ready (common R.order cl cm) l m v)
   unfolding convert_by
   both_answer l m cl cm v el em = bind_given _ el ∙ bind_given _ em
@@ -57,10 +57,10 @@ module _ {A : Type 0} (R : Rules A) (W : Value) (O : Total R.order) (ready : Lis
   lists_differ l m cl cm v u =
       both_answer l m cl cm v u.own u.target ∙ choose_off _ v _ (ap₂ ◌||◌ u.nonzero (missed _ (same_list_lem R.order O cl cm) u.differ))
 
-  own_ready : (l m cl cm own : List Factor) (v : A) → Unlike R W l m v cl cm → ready (over l (common R.order cl cm)) ≡ given own → convert_by R ready l m v ≡ against R own (canon R.order (over m (common R.order cl cm))) v
+  own_ready : (l m cl cm own : List Factor) (v : A) → Unlike R W l m v cl cm → ready (over l (common R.order cl cm)) ≡ Ok own → convert_by R ready l m v ≡ against R own (canon R.order (over m (common R.order cl cm))) v
   own_ready l m cl cm own v u e = lists_differ l m cl cm v u ∙ bind_given _ e
 
-  stops : (l m : List Factor) (v : A) {r : Refusal} → Stopped R W ready l m v r → convert_by R ready l m v ≡ refused r
+  stops : (l m : List Factor) (v : A) {r : Refusal} → Stopped R W ready l m v r → convert_by R ready l m v ≡ Err r
   unfolding convert_by
   stops l m v (at_own e) = bind_refused _ e
   stops l m v (at_target el e) = bind_given _ el ∙ bind_refused _ e
@@ -85,10 +85,10 @@ module _ {A : Type 0} (R : Rules A) (W : Value) (O : Total R.order) (ready : Lis
         (λ r s. stopped (at_reduced u e s)))
         (λ r e. stopped (at_ready u e))
 
-    compared : (cl cm : List Factor) → canon R.order l ≡ given cl → canon R.order m ≡ given cm → R.numbers.is_zero v ≡ false → Case R W ready l m v
+    compared : (cl cm : List Factor) → canon R.order l ≡ Ok cl → canon R.order m ≡ Ok cm → R.numbers.is_zero v ≡ false → Case R W ready l m v
     compared cl cm el em z =
         decided (same_list R.order cl cm) (same_list_lem R.order O cl cm)
-        (λ e. equal (el ∙ ap given e) em)
+        (λ e. equal (el ∙ ap Ok e) em)
         (λ n. differing cl cm (record { own = el; target = em; nonzero = z; differ = n }))
 
     -- THEOREM: one of the cases holds
@@ -126,12 +126,12 @@ module _ {A : Type 0} (R : Rules A) (W : Value) (O : Total R.order) (ready : Lis
 
   module _ (l m : List Factor) (v : A) where
     -- two scales refuse only by FRACTION
-    by_fraction : (own t : List Factor) {r : Refusal} → rescaled R own t v ≡ refused r → r ≡ FRACTION
+    by_fraction : (own t : List Factor) {r : Refusal} → rescaled R own t v ≡ Err r → r ≡ FRACTION
     by_fraction own t e = only_out (fraction_only (λ r. r ≡ FRACTION) refl (rescaled_is R own t v)) e
 
     -- r is a refusal of what leaves the range
     module _ (r : Refusal) (range : OutOfRange r) where
-      stopped_from : (k : Case R W ready l m v) → answer R W ready k ≡ refused r → Stopped R W ready l m v r
+      stopped_from : (k : Case R W ready l m v) → answer R W ready k ≡ Err r → Stopped R W ready l m v r
       unfolding rescaled
       stopped_from (zero el em z) e = absurd (given_not_refused e)
       stopped_from (equal el em) e = absurd (given_not_refused e)
@@ -140,13 +140,13 @@ module _ {A : Type 0} (R : Rules A) (W : Value) (O : Total R.order) (ready : Lis
       stopped_from (value {t = t} s a) e = absurd (range_not_fraction r range (by_fraction _ t e))
 
       -- exactly where one of the steps refuses, with the refusal of the first; by `stopped_only` a step has no others
-      pub range_exactly : (convert_by R ready l m v ≡ refused r) ↔ Stopped R W ready l m v r
+      pub range_exactly : (convert_by R ready l m v ≡ Err r) ↔ Stopped R W ready l m v r
       range_exactly = (λ e. stopped_from (case l m v) (sym (faithful l m v (case l m v)) ∙ e), stops l m v)
 
     -- all steps answer
     module _ {cl cm own t : List Factor} {x y : List Exponent} (s : Reduced R W ready l m v cl cm own x t y) where
       -- UNITS exactly where the base exponents of l and m differ
-      pub units_exactly : (convert_by R ready l m v ≡ refused UNITS) ↔ (Agree W R.bases l m → ⊥)
+      pub units_exactly : (convert_by R ready l m v ≡ Err UNITS) ↔ (Agree W R.bases l m → ⊥)
       unfolding rescaled
       units_exactly = (λ e a. units_not_fraction (by_fraction _ t (sym (faithful l m v (value s a)) ∙ e)), λ n. faithful l m v (units s n))
 

@@ -4,7 +4,7 @@ use mathlib.Core.Bool.{Bool, true, false, true≢false}
 use mathlib.Core.Logic.{◌↔◌}
 use mathlib.Core.List.{List}
 use Prim.Native.Nat.{ℕ}
-use Rattle.exponents.specs.Outcome.{Refusal, UNITS, Outcome, refused}
+use Rattle.exponents.specs.Outcome.{Refusal, UNITS, Outcome, Err}
 use Rattle.exponents.specs.declared.Exponent.{Exponent}
 use Rattle.exponents.proofs.Holds.{Holds, Only, only_out, take_out, either, bind_given, bind_refused}
 use Rattle.exponents.proofs.Halves.{OutOfRange}
@@ -67,14 +67,14 @@ module _ {A : Type 0} where
   judged_on true o e = refl
   judged_on false o e = absurd (true≢false (sym e))
 
-  judged_off : (t : Bool) (o : Outcome A) → t ≡ false → judged t o ≡ refused UNITS
+  judged_off : (t : Bool) (o : Outcome A) → t ≡ false → judged t o ≡ Err UNITS
   unfolding judged
   judged_off true o e = absurd (true≢false e)
   judged_off false o e = refl
 
 module _ {A : Type 0} (R : Rules A) (own : List Factor) (target : Outcome (List Factor)) (v : A) where
   -- the first step that refuses is answered
-  pub against_stops : {r : Refusal} → Stops R.bases own target r → against R own target v ≡ refused r
+  pub against_stops : {r : Refusal} → Stops R.bases own target r → against R own target v ≡ Err r
   unfolding against
   against_stops (at_own_base e) = bind_refused _ e
   against_stops (at_over ex e) = bind_given _ ex ∙ bind_refused _ e
@@ -87,7 +87,7 @@ module _ {A : Type 0} (R : Rules A) (own : List Factor) (target : Outcome (List 
 
     module _ (W : Value) (l m c : List Factor) (k : Over W l m c own target) where
       -- all steps answer, and the base exponents of l and m differ: UNITS
-      pub against_units : (Agree W R.bases l m → ⊥) → against R own target v ≡ refused UNITS
+      pub against_units : (Agree W R.bases l m → ⊥) → against R own target v ≡ Err UNITS
       against_units n = judges ∙ judged_off _ _ (missed _ (reduction_decides W R.bases l m c own target k s) n)
 
       -- or agree: the value by the two scales

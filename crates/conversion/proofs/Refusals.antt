@@ -5,7 +5,7 @@ use mathlib.Core.List.{List, [], ◌∷◌}
 use Prim.Native.Nat.{ℕ, Ordering}
 use native.Mathlib.Omega.{arith}
 use lib.Dec.{eqb}
-use Rattle.exponents.specs.Outcome.{Refusal, UNITS, FRACTION, Outcome, given, refused, apply, bind, each}
+use Rattle.exponents.specs.Outcome.{Refusal, UNITS, FRACTION, Outcome, Ok, Err, apply, bind, each}
 use Rattle.exponents.specs.Fractions.{nought, sum?}
 use Rattle.exponents.specs.declared.Exponent.{Exponent}
 use Rattle.exponents.proofs.Holds.{Only, fine, only, only_map, only_bind}
@@ -20,7 +20,7 @@ use Rattle.conversion.specs.Conversion.{rescaled}
 use Rattle.conversion.specs.Fractional.{fractional}
 
 -- ---- an answer is no refusal, and those of what leaves the range, UNITS and FRACTION are others
-pub given_not_refused : {A : Type 0} {a : A} {r : Refusal} → given a ≡ refused r → ⊥
+pub given_not_refused : {A : Type 0} {a : A} {r : Refusal} → Ok a ≡ Err r → ⊥
 given_not_refused e = let z : ◌≡◌ {A = ℕ} 0 1 = cc in omega arith
 
 pub range_not_units : (r : Refusal) → OutOfRange r → r ≡ UNITS → ⊥
@@ -75,8 +75,8 @@ module _ (S : Refusal → Type 0) (range : (r : Refusal) → OutOfRange r → S 
 
 -- refused by FRACTION, or worked out
 pub data Fraction {A : Type 0} : Bool → Outcome A → Type 0 where
-  fraction : Fraction true (refused FRACTION)
-  worked : {p : A} → Fraction false (given p)
+  fraction : Fraction true (Err FRACTION)
+  worked : {p : A} → Fraction false (Ok p)
 
 pub fraction_only : {A : Type 0} (S : Refusal → Type 0) → S FRACTION → {t : Bool} {o : Outcome A} → Fraction t o → Only S o
 fraction_only S h fraction = only h

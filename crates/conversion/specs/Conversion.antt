@@ -1,6 +1,6 @@
 -- Conversion of a value from the list l to the list m (01, "Conversion, sums, comparison", "The refusals"), each step in 01's order; and that in which factors cancel on both sides (02, order 3). The answer is the value; its list is m as it is spelled.
 use Rattle.std.specs.Prelude.{Bool, true, false, ◌||◌, List}
-use Rattle.exponents.specs.Outcome.{Outcome, given, refused, UNITS, apply, bind}
+use Rattle.exponents.specs.Outcome.{Outcome, Ok, Err, UNITS, apply, bind}
 use Rattle.units.specs.declared.Factor.{Factor}
 use Rattle.tables.specs.Lists.{base}
 use Rattle.tables.specs.Rules.{Rules, scale_by}
@@ -11,16 +11,16 @@ module _ {A : Type 0} where
   -- unlike base exponents
   unfoldable pub judged : Bool → Outcome A → Outcome A
   judged true o = o
-  judged false o = refused UNITS
+  judged false o = Err UNITS
 
   -- equal lists or a zero keep their value
   unfoldable pub choose : Bool → A → Outcome A → Outcome A
-  choose true v o = given v
+  choose true v o = Ok v
   choose false v o = o
 
 -- a list as it stands
 abbrev pub standing : List Factor → Outcome (List Factor)
-standing l = given l
+standing l = Ok l
 
 -- by the rules R
 module _ {A : Type 0} (R : Rules A) where

@@ -1,6 +1,6 @@
 -- Conversion of quantities with the multiplications that it takes inside the power rule, prefix powers included (02, order 5): by 01's rule, and by order 3's. It is the definition of conversion over numbers that carry a count; row scales are in hand, so nothing done for the table's rows is counted.
 use Rattle.std.specs.Prelude.{List, ℕ, length}
-use Rattle.exponents.specs.Outcome.{Outcome, given, refused, number, apply, bind}
+use Rattle.exponents.specs.Outcome.{Outcome, apply, bind}
 use Rattle.floats.specs.Power.{tally}
 use Rattle.floats.specs.declared.Tally.{Tally}
 use Rattle.units.specs.declared.Factor.{Factor}
@@ -11,7 +11,7 @@ use Rattle.units.specs.Lists.{both}
 use Rattle.tables.specs.Rows.{table}
 use Rattle.tables.specs.Rules.{Rules, rules_in, counted}
 use Rattle.conversion.specs.Conversion.{convert, cancelling}
-use Rattle.values.specs.Quantities.{fresh, no_quantity}
+use Rattle.values.specs.Quantities.{fresh}
 use Rattle.counted.specs.declared.Counted.{Counted}
 
 module _ (t : Rows) where
@@ -25,11 +25,6 @@ module _ (t : Rows) where
   unfoldable pub convert_merged_counted : Quantity → Factors → Outcome (Quantity × ℕ)
   convert_merged_counted = count_with_lem (λ R. cancelling R)
 
--- a refusal returns its number, and counts 0
-abbrev pub not_counted : ℕ → Counted
-not_counted n = record { quantity = (no_quantity n).quantity; count = 0; refusal = n }
-
 -- how code hands it over
-abbrev pub counted_of : Outcome (Quantity × ℕ) → Counted
-counted_of (given p) = record { quantity = p.0; count = p.1; refusal = 0 }
-counted_of (refused r) = not_counted (number r)
+abbrev pub counted_of : Outcome (Quantity × ℕ) → Outcome Counted
+counted_of = apply (λ p. record { quantity = p.0; count = p.1 })

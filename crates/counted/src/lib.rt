@@ -1,110 +1,100 @@
 // Conversion of quantities with the multiplications that it takes inside the power rule (02, order 5): `convert_to_counted`, `convert_merged_counted`. Neither asks anything of its caller.
 // Each has a half, `.._over`, for a table and lists that are opened already.
+// Kept: calls alike but for the call they pass on to: each has its name in 01 or 02 and a contract over its own definition.
 #![tactic(auto)]
 
 ghost use Rattle.std.specs.Prelude.{◌≡◌, List};
-ghost use Rattle.exponents.specs.Outcome.{Outcome, apply};
-ghost use Rattle.floats.specs.declared.Tally.{Tally as Tallyᵛ};
+ghost use Rattle.exponents.specs.Outcome.{apply};
 ghost use Rattle.units.specs.declared.Factor.{Factor as Factorᵛ};
 ghost use Rattle.units.specs.declared.Factors.{Factors as Factorsᵛ};
 ghost use Rattle.units.specs.declared.Rows.{Rows as Rowsᵛ};
-ghost use Rattle.tables.specs.Held.{tallied_of, View, Resolved};
-ghost use Rattle.lists.specs.Held.{Opens};
+ghost use Rattle.tables.specs.Held.{View, Resolved};
+ghost use Rattle.lists.specs.Held.{OpensIn};
 ghost use Rattle.values.specs.Quantities.{fresh};
 ghost use Rattle.counted.specs.Calls as spec;
-ghost use Rattle.counted.specs.Calls.{not_counted, counted_of};
+ghost use Rattle.counted.specs.Calls.{counted_of};
 
+use exponents::refusals::Refusal;
+use floats::Tally;
 use lists::opening::Opened;
 use tables::Items;
-use tables::scales::Tallied;
+use tables::pages::{Bases, Columns};
 use units::{Factors, Quantity, Rows};
 use values::answers;
 
-// A converted quantity and the multiplications that the conversion took; or the number of the refusal, beside the empty quantity and 0.
+// A converted quantity and the multiplications that the conversion took.
 #[derive(Clone, Copy, Drop)]
 pub struct Counted {
     pub quantity: Quantity,
     pub count: u32,
-    pub refusal: u32,
-}
-
-fn refused(refusal: u32) -> Counted
-    ensures { result ≡ not_counted refusal }
-{
-    let a = answers::refused(refusal);
-    let q = a.quantity;
-    Counted {
-        quantity: q,
-        count: 0,
-        refusal: refusal,
-    }
 }
 
 // A converted value in the target list b, with a fresh mark, and what it took; or its refusal.
-fn in_target(c: Tallied, b: Items) -> Counted
-    ensures { (v : View) (gs : List Factorᵛ) (o : Outcome Tallyᵛ) → Resolved v b gs → c ≡ tallied_of o → result ≡ counted_of (apply (λ x. (fresh x.value gs, x.count)) o) }
+fn in_target(c: Result<Tally, Refusal>, b: Items) -> Result<Counted, Refusal>
+    ensures { (v : View) (gs : List Factorᵛ) → Resolved v b gs → result ≡ counted_of (apply (λ x. (fresh x.value gs, x.count)) c) }
 {
-    match c {
-        Tallied::Value(t) => {
-            let l = lists::opening::factors_of(b);
-            let a = answers::with_mark(t.value, l, true);
-            let q = a.quantity;
-            Counted {
-                quantity: q,
-                count: t.count,
-                refusal: 0,
-            }
-        }
-        Tallied::Refused(n) => refused(n),
-    }
+    let t = c?;
+    let l = lists::opening::factors_of(b);
+    Ok(Counted {
+        quantity: answers::with_mark(t.value, l, true),
+        count: t.count,
+    })
 }
 
 // Over the opened table and lists.
-pub fn convert_to_counted_over(o: Opened, q: Quantity, nums: &[i32], dens: &[u32]) -> Counted
-    ensures { (rows : Rowsᵛ) (target : Factorsᵛ) → Opens rows q.unit target o nums.now dens.now → result ≡ counted_of (spec.convert_to_counted rows q target) }
+pub fn convert_to_counted_over(
+    o: Result<Opened, Refusal>,
+    q: Quantity,
+    bases: Bases,
+) -> Result<Counted, Refusal>
+    ensures { (rows : Rowsᵛ) (target : Factorsᵛ) → OpensIn rows q.unit target o bases.entry → result ≡ counted_of (spec.convert_to_counted rows q target) }
 {
-    if o.refusal != 0 {
-        return refused(o.refusal);
-    }
-    let a = o.a;
-    let b = o.b;
-    let s = o.slots;
-    let c = conversion::convert::convert_counted(q.value, a, b, s.len, nums, dens);
-    in_target(c, b)
+    let o = o?;
+    let c = conversion::convert::convert_counted(q.value, o.a, o.b, o.slots.len, bases);
+    in_target(c, o.b)
 }
 
-pub fn convert_to_counted(rows: Rows, q: Quantity, target: Factors) -> Counted
+pub fn convert_to_counted(rows: Rows, q: Quantity, target: Factors) -> Result<Counted, Refusal>
     ensures { result ≡ counted_of (spec.convert_to_counted rows q target) }
 {
-    let mut nums = [0i32; 2048];
-    let mut dens = [1u32; 2048];
-    let u = q.unit;
-    let o = lists::opening::open_lists(rows, u, target, &mut nums, &mut dens);
-    convert_to_counted_over(o, q, &nums, &dens)
+    let mut columns = Columns::blank();
+    let o = lists::opening::open_lists(rows, q.unit, target, &mut columns);
+    convert_to_counted_over(
+        o,
+        q,
+        Bases {
+            nums: &columns.nums,
+            dens: &columns.dens,
+        },
+    )
 }
 
 // ---- with factors cancelled on both sides (02, order 3)
 
 // Over the opened table and lists.
-pub fn convert_merged_counted_over(o: Opened, q: Quantity, nums: &[i32], dens: &[u32]) -> Counted
-    ensures { (rows : Rowsᵛ) (target : Factorsᵛ) → Opens rows q.unit target o nums.now dens.now → result ≡ counted_of (spec.convert_merged_counted rows q target) }
+pub fn convert_merged_counted_over(
+    o: Result<Opened, Refusal>,
+    q: Quantity,
+    bases: Bases,
+) -> Result<Counted, Refusal>
+    ensures { (rows : Rowsᵛ) (target : Factorsᵛ) → OpensIn rows q.unit target o bases.entry → result ≡ counted_of (spec.convert_merged_counted rows q target) }
 {
-    if o.refusal != 0 {
-        return refused(o.refusal);
-    }
-    let a = o.a;
-    let b = o.b;
-    let s = o.slots;
-    let c = conversion::convert::cancelling_counted(q.value, a, b, s.len, nums, dens);
-    in_target(c, b)
+    let o = o?;
+    let c = conversion::convert::cancelling_counted(q.value, o.a, o.b, o.slots.len, bases);
+    in_target(c, o.b)
 }
 
-pub fn convert_merged_counted(rows: Rows, q: Quantity, target: Factors) -> Counted
+pub fn convert_merged_counted(rows: Rows, q: Quantity, target: Factors) -> Result<Counted, Refusal>
     ensures { result ≡ counted_of (spec.convert_merged_counted rows q target) }
 {
-    let mut nums = [0i32; 2048];
-    let mut dens = [1u32; 2048];
-    let u = q.unit;
-    let o = lists::opening::open_lists(rows, u, target, &mut nums, &mut dens);
-    convert_merged_counted_over(o, q, &nums, &dens)
+    let mut columns = Columns::blank();
+    let o = lists::opening::open_lists(rows, q.unit, target, &mut columns);
+    convert_merged_counted_over(
+        o,
+        q,
+        Bases {
+            nums: &columns.nums,
+            dens: &columns.dens,
+        },
+    )
 }

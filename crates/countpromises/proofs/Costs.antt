@@ -9,7 +9,7 @@ use borrow.Author.Tests.{eqb-true, eqb-false, leb-true, ltb-false}
 use lib.IntN.{ℤ, pos, negsuc, nat_abs}
 use lib.Ieee.{Float}
 use lib.ListN.{length}
-use Rattle.exponents.specs.Outcome.{given}
+use Rattle.exponents.specs.Outcome.{Ok}
 use Rattle.exponents.specs.Fractions.{faulty}
 use Rattle.exponents.specs.declared.Exponent.{Exponent}
 use Rattle.exponents.proofs.Equality.{and_left, and_right}
@@ -69,7 +69,7 @@ module _ (N : Numbers Float) (size : Factor → Float) where
   scale_holds s (f ∷ l) = holds_bind _ (raised-count f) λ t e. holds_imp (scale_holds ((counting N).times s t) l) λ w h. omega arith
 
   -- THEOREM (02, order 5): a scale takes exactly what its factors take, and what was counted before it
-  pub scale_count : (s : Tally) (l : List Factor) (w : Tally) → scale_from_lem (counting N) (counted_size size) s l ≡ given w → w.count ≡ s.count + costs l
+  pub scale_count : (s : Tally) (l : List Factor) (w : Tally) → scale_from_lem (counting N) (counted_size size) s l ≡ Ok w → w.count ≡ s.count + costs l
   scale_count s l w e = take_out (scale_holds s l) e
 
 -- ---- prefixes

@@ -8,7 +8,7 @@ use borrow.Author.Tests.{ltb-false}
 use lib.Dec.{ltb}
 use lib.Ieee.{Float}
 use lib.ListN.{length, length-take}
-use Rattle.exponents.specs.Outcome.{Refusal, SHAPE, UNKNOWN, Outcome, given, refused, apply, bind}
+use Rattle.exponents.specs.Outcome.{Refusal, SHAPE, UNKNOWN, Outcome, Ok, Err, apply, bind}
 use Rattle.exponents.proofs.Following.{bind_same, apply_apply, apply_bind}
 use Rattle.exponents.proofs.Holds.{Holds, held, take_out, one_answer, holds_eq, holds_both, holds_unless, holds_map, holds_bind, bind_given}
 use Rattle.exponents.proofs.InRange.{or_left, or_right}
@@ -32,7 +32,7 @@ use Rattle.conversion.proofs.Forgetting.{forget_convert}
 use Rattle.lists.specs.Calls.{same_lists}
 use Rattle.values.specs.Quantities.{fresh}
 use Rattle.quantities.specs.Calls.{convert_with, convert_to, convert_merged}
-use Rattle.counted.specs.Calls.{count_with_lem, convert_to_counted, convert_merged_counted, counted_of}
+use Rattle.counted.specs.Calls.{count_with_lem, convert_to_counted, convert_merged_counted}
 use Rattle.countpromises.proofs.Merged.{Short, Took, took, stays, merged-most}
 use Rattle.countpromises.proofs.Longest.{convert_most}
 
@@ -65,6 +65,11 @@ merging ks = canon (order_in ks)
 abbrev pub quantity_of : Outcome (Quantity × ℕ) → Outcome Quantity
 quantity_of o = apply (λ p. p.0) o
 
+-- what a counted conversion took: nothing if it is refused
+abbrev pub multiplied : Outcome (Quantity × ℕ) → ℕ
+multiplied (Ok p) = p.1
+multiplied (Err r) = 0
+
 module _ (t : Rows) (q : Quantity) (m : Factors) where
   -- ---- values and refusals
 
@@ -83,8 +88,8 @@ module _ (t : Rows) (q : Quantity) (m : Factors) where
   values_stay = (both_stay (λ R. convert R) (λ R. convert R) λ R. forget_convert R standing, both_stay (λ R. cancelling R) (λ R. cancelling R) λ R. forget_convert R (canon R.order))
 
   -- THEOREM: a refusal counts 0
-  pub refused_none : (r : Refusal) → (convert_to_counted t q m ≡ refused r → (counted_of (convert_to_counted t q m)).count ≡ 0) × (convert_merged_counted t q m ≡ refused r → (counted_of (convert_merged_counted t q m)).count ≡ 0)
-  refused_none r = (λ e. ap (λ o. (counted_of o).count) e, λ e. ap (λ o. (counted_of o).count) e)
+  pub refused_none : (r : Refusal) → (convert_to_counted t q m ≡ Err r → multiplied (convert_to_counted t q m) ≡ 0) × (convert_merged_counted t q m ≡ Err r → multiplied (convert_merged_counted t q m) ≡ 0)
+  refused_none r = (λ e. ap multiplied e, λ e. ap multiplied e)
 
   -- ---- the count of an answer
 
@@ -93,8 +98,8 @@ module _ (t : Rows) (q : Quantity) (m : Factors) where
     pub ks : List Facts
     pub own : List Factor
     pub target : List Factor
-    pub known : table t ≡ given ks
-    pub lists : both (length ks) q.unit m ≡ given (own, target)
+    pub known : table t ≡ Ok ks
+    pub lists : both (length ks) q.unit m ≡ Ok (own, target)
     pub own_short : Short 16 own
     pub target-short : Short 16 target
     pub exactly : Took (rules_in t ks) (ready ks) own target (tally q.value 0) n
@@ -108,7 +113,7 @@ module _ (t : Rows) (q : Quantity) (m : Factors) where
 
   -- P holds of what 01's conversion counts, Q of what order 3's counts
   abbrev pub Both : (ℕ → Type 0) → (ℕ → Type 0) → Type 0
-  Both P Q = (p : Quantity × ℕ) → (convert_to_counted t q m ≡ given p → P p.1) × (convert_merged_counted t q m ≡ given p → Q p.1)
+  Both P Q = (p : Quantity × ℕ) → (convert_to_counted t q m ≡ Ok p → P p.1) × (convert_merged_counted t q m ≡ Ok p → Q p.1)
 
   -- THEOREM: the count of an answer is exactly what was taken: 0 by a shortcut, else what the factors of both scales take
   pub counted_exactly : Both (Accounted as_it_stands) (Accounted merging)
@@ -126,7 +131,7 @@ module _ (t : Rows) (q : Quantity) (m : Factors) where
       none ready n c = stays (rules_in t c.ks) (ready c.ks) c.own c.target (tally q.value 0) (λ cl cm _ _. ap (λ b. b || same_list (order_in c.ks) cl cm) z) n c.exactly
 
   -- THEOREM: equal lists count 0
-  pub equal_none : same_lists t q.unit m ≡ given true → Both (λ n. n ≡ 0) (λ n. n ≡ 0)
+  pub equal_none : same_lists t q.unit m ≡ Ok true → Both (λ n. n ≡ 0) (λ n. n ≡ 0)
   unfolding same_lists equal
   equal_none h = of-both (none as_it_stands) (none merging)
     where
@@ -148,14 +153,14 @@ module _ (t : Rows) (m : Factors) where
   -- what all of them take; one that is refused counts 0
   unfoldable pub spent : List Quantity → ℕ
   spent [] = 0
-  spent (q ∷ ks) = (counted_of (convert_merged_counted t q m)).count + spent ks
+  spent (q ∷ ks) = multiplied (convert_merged_counted t q m) + spent ks
 
-  slot : (o : Outcome (Quantity × ℕ)) → ((p : Quantity × ℕ) → o ≡ given p → p.1 ≤ 2560) → (counted_of o).count ≤ 2560
-  slot (given p) h = h p refl
-  slot (refused r) h = omega arith
+  slot : (o : Outcome (Quantity × ℕ)) → ((p : Quantity × ℕ) → o ≡ Ok p → p.1 ≤ 2560) → multiplied o ≤ 2560
+  slot (Ok p) h = h p refl
+  slot (Err r) h = omega arith
 
   -- THEOREM: one knot takes at most 2,560, whatever it is
-  pub knot_bound : (q : Quantity) → (counted_of (convert_merged_counted t q m)).count ≤ 2560
+  pub knot_bound : (q : Quantity) → multiplied (convert_merged_counted t q m) ≤ 2560
   knot_bound q = slot (convert_merged_counted t q m) λ p. (bounds t q m p).1
 
   -- THEOREM: so n of them at most 2,560 each

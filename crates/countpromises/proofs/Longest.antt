@@ -8,7 +8,7 @@ use lib.Ieee.{Float}
 use lib.Dec.{eqb}
 use lib.IntN.{ℤ, pos, negsuc, neg_ℤ, nat_abs}
 use lib.ListN.{length}
-use Rattle.exponents.specs.Outcome.{Outcome, given, apply}
+use Rattle.exponents.specs.Outcome.{Outcome, Ok, apply}
 use Rattle.exponents.specs.Words.{All}
 use Rattle.exponents.specs.Fractions.{neg, add?, nought, same}
 use Rattle.exponents.specs.declared.Exponent.{Exponent}
@@ -26,8 +26,7 @@ use Rattle.tables.proofs.Total.{swap}
 use Rattle.canonical.specs.Canonical.{place, insert, gather, drop_if, nonzero, canon}
 use Rattle.canonical.proofs.Total.{Weak}
 use Rattle.canonical.proofs.Sorted.{Above, Rising, above_trans, canon_canonical}
-use Rattle.common.specs.declared.Shared.{Shared}
-use Rattle.common.specs.declared.Shared.TheVariants.{Takes, Nothing}
+use Rattle.std.specs.Prelude.{Option, Some, None}
 use Rattle.common.specs.Common.{meet, if_same, with_shared, shared_with_lem, common}
 use Rattle.common.specs.Held.{taken, lessen}
 use Rattle.common.proofs.Merging.{AllFound, above_like, found_before, all-behind, common_rising, common_found}
@@ -90,7 +89,7 @@ raising_neg e = ap (λ n. cond (eqb e.den 1) (multiplications (bits n)) 0) (size
     size (pos n) = nat_abs-neg n
     size (negsuc n) = refl
 
-shared_cost : (f g : Factor) (s e : Exponent) → factor_fault f ≡ false → factor_fault g ≡ false → meet f.exponent g.exponent ≡ Takes s → add? g.exponent (neg s) ≡ given e →
+shared_cost : (f g : Factor) (s e : Exponent) → factor_fault f ≡ false → factor_fault g ≡ false → meet f.exponent g.exponent ≡ Some s → add? g.exponent (neg s) ≡ Ok e →
     cost (inverted (of (atom f) s)) + cost (of (atom g) e) ≤ 152 + slack f
 unfolding cost inverted with_exponent
 shared_cost f g s e kf kg m p =
@@ -101,7 +100,7 @@ shared_cost f g s e kf kg m p =
 module _ (cmp : Atom → Atom → Ordering) (O : Weak cmp) where
   -- ---- x taken out of what compares with it in m: both take at most 152 and b
   abbrev Pays : Factor → ℕ → List Factor → Type 0
-  Pays x b m = All (λ g. cmp (atom x) (atom g) ≡ Ordering.eq → (e : Exponent) → add? g.exponent x.exponent ≡ given e → cost x + cost (of (atom g) e) ≤ 152 + b) m
+  Pays x b m = All (λ g. cmp (atom x) (atom g) ≡ Ordering.eq → (e : Exponent) → add? g.exponent x.exponent ≡ Ok e → cost x + cost (of (atom g) e) ≤ 152 + b) m
 
   -- nothing compares with what comes before all of m
   pays_none : (x : Factor) (b : ℕ) (m : List Factor) → Above cmp (atom x) m → Pays x b m
@@ -149,23 +148,23 @@ module _ (cmp : Atom → Atom → Ordering) (O : Weak cmp) where
       (λ f. walk m (c ∷ cs) n (or_right (factor_fault g) (some factor_fault m) k) r.1 s f (paid_behind g m p))
 
   -- ---- the common factors pay with the slack of those they are shared of
-  abbrev PaysIf : Shared → Factor → List Factor → Type 0
-  PaysIf (Takes e) f m = Pays (inverted (of (atom f) e)) (slack f) m
-  PaysIf Nothing f m = Unit {0}
+  abbrev PaysIf : Option Exponent → Factor → List Factor → Type 0
+  PaysIf (Some e) f m = Pays (inverted (of (atom f) e)) (slack f) m
+  PaysIf None f m = Unit {0}
 
-  pays_later : (s : Shared) (f g : Factor) (m : List Factor) → (cmp (atom f) (atom g) ≡ Ordering.eq → ⊥) → PaysIf s f m → PaysIf s f (g ∷ m)
+  pays_later : (s : Option Exponent) (f g : Factor) (m : List Factor) → (cmp (atom f) (atom g) ≡ Ordering.eq → ⊥) → PaysIf s f m → PaysIf s f (g ∷ m)
   unfolding inverted with_exponent
-  pays_later (Takes e) f g m h p = (λ q. absurd (h q), p)
-  pays_later Nothing f g m h p = tt
+  pays_later (Some e) f g m h p = (λ q. absurd (h q), p)
+  pays_later None f g m h p = tt
 
   module _ (f g : Factor) (m : List Factor) (kf : factor_fault f ≡ false) (kg : factor_fault g ≡ false) (a : Above cmp (atom g) m) where
-    pays_here : (s : Shared) → meet f.exponent g.exponent ≡ s → cmp (atom f) (atom g) ≡ Ordering.eq → PaysIf s f (g ∷ m)
+    pays_here : (s : Option Exponent) → meet f.exponent g.exponent ≡ s → cmp (atom f) (atom g) ≡ Ordering.eq → PaysIf s f (g ∷ m)
     unfolding inverted with_exponent
-    pays_here (Takes s) e q =
+    pays_here (Some s) e q =
         (λ _ u p. shared_cost f g s u kf kg e p, pays_none (inverted (of (atom f) s)) (slack f) m (above_like cmp O (atom g) (atom f) m (O.swaps (atom f) (atom g) ∙ ap swap q) a))
-    pays_here Nothing e q = tt
+    pays_here None e q = tt
 
-    pays_by : (o : Ordering) (b : Shared) → cmp (atom f) (atom g) ≡ o → PaysIf b f m → PaysIf (if_same o (meet f.exponent g.exponent) b) f (g ∷ m)
+    pays_by : (o : Ordering) (b : Option Exponent) → cmp (atom f) (atom g) ≡ o → PaysIf b f m → PaysIf (if_same o (meet f.exponent g.exponent) b) f (g ∷ m)
     unfolding if_same
     pays_by Ordering.lt b q p = pays_later b f g m (λ e. let z : ◌≡◌ {A = ℕ} 0 1 = cc in omega arith) p
     pays_by Ordering.eq b q p = pays_here (meet f.exponent g.exponent) refl q
@@ -177,10 +176,10 @@ module _ (cmp : Atom → Atom → Ordering) (O : Weak cmp) where
   pays_shared f (g ∷ m) kf k r =
       pays_by f g m kf (or_left (factor_fault g) (some factor_fault m) k) r.0 _ (shared_with_lem cmp f m) refl (pays_shared f m kf (or_right (factor_fault g) (some factor_fault m) k) r.1)
 
-  paid_one : (s : Shared) (f : Factor) (m cs : List Factor) (n : ℕ) → PaysIf s f m → Paid m (map inverted cs) n → Paid m (map inverted (with_shared s f cs)) (slack f + n)
+  paid_one : (s : Option Exponent) (f : Factor) (m cs : List Factor) (n : ℕ) → PaysIf s f m → Paid m (map inverted cs) n → Paid m (map inverted (with_shared s f cs)) (slack f + n)
   unfolding with_shared
-  paid_one (Takes e) f m cs n p h = more {n = slack f + n} (slack f) n (omega arith) p h
-  paid_one Nothing f m cs n p h = paid_with m (slack f) h
+  paid_one (Some e) f m cs n p h = more {n = slack f + n} (slack f) n (omega arith) p h
+  paid_one None f m cs n p h = paid_with m (slack f) h
 
   paid : (l m : List Factor) → some factor_fault l ≡ false → some factor_fault m ≡ false → Rising cmp m → Paid m (map inverted (common cmp l m)) (slacks l)
   unfolding common some total
@@ -189,7 +188,7 @@ module _ (cmp : Atom → Atom → Ordering) (O : Weak cmp) where
       paid_one (shared_with_lem cmp f m) f m (common cmp l m) (slacks l) (pays_shared f m (or_left (factor_fault f) (some factor_fault l) k) km r) (paid l m (or_right (factor_fault f) (some factor_fault l) k) km r)
 
   -- ---- THEOREM: own list, common factors and what is left of the target take at most 234 for each of n factors
-  pub longest : (n : ℕ) (l m cl cm t : List Factor) → Short n l → Short n m → canon cmp l ≡ given cl → canon cmp m ≡ given cm → lessen cmp cm (map inverted (common cmp cl cm)) ≡ given t →
+  pub longest : (n : ℕ) (l m cl cm t : List Factor) → Short n l → Short n m → canon cmp l ≡ Ok cl → canon cmp m ≡ Ok cm → lessen cmp cm (map inverted (common cmp cl cm)) ≡ Ok t →
       costs l + (costs (map inverted (common cmp cl cm)) + costs t) ≤ 234 * n
   longest n l m cl cm t sl sm el em et =
       let ol = form_short cmp n l cl el sl in

@@ -6,7 +6,7 @@ use Prim.Native.Nat.{ℕ, ◌+◌, ◌*◌, ◌≤◌, Ordering}
 use native.Mathlib.Omega.{arith}
 use lib.Ieee.{Float}
 use lib.ListN.{length}
-use Rattle.exponents.specs.Outcome.{Outcome, given}
+use Rattle.exponents.specs.Outcome.{Outcome, Ok}
 use Rattle.exponents.proofs.Holds.{Holds, moot, held, take_out, holds_eq, holds_map, holds_bind}
 use Rattle.floats.specs.declared.Tally.{Tally}
 use Rattle.units.specs.declared.Factor.{Factor}
@@ -33,10 +33,10 @@ pub short_costs : (n : ℕ) (l : List Factor) → Short n l → costs l ≤ 80 *
 short_costs n l s = costs_most n l s.few s.kept
 
 module _ (cmp : Atom → Atom → Ordering) (n : ℕ) where
-  pub form_short : (l c : List Factor) → canon cmp l ≡ given c → Short n l → Short n c
+  pub form_short : (l c : List Factor) → canon cmp l ≡ Ok c → Short n l → Short n c
   form_short l c e s = record { few = omega (arith, s.few, take_out (canon_short cmp l) e); kept = take_out (canon_kept cmp l s.kept) e }
 
-  pub lessened_short : (c xs t : List Factor) → lessen cmp c xs ≡ given t → Short n c → Short n t
+  pub lessened_short : (c xs t : List Factor) → lessen cmp c xs ≡ Ok t → Short n c → Short n t
   lessened_short c xs t e s = record { few = omega (arith, s.few, take_out (lessen_short cmp c xs) e); kept = take_out (lessen_kept cmp c xs s.kept) e }
 
 -- ---- what an answer takes
@@ -49,15 +49,15 @@ module _ (R : Rules Float) (ready : List Factor → Outcome (List Factor)) (l m 
   pub record Scaled (own t : List Factor) : Type 0 where
     pub cl : List Factor
     pub cm : List Factor
-    pub own_form : canon R.order l ≡ given cl
-    pub target_form : canon R.order m ≡ given cm
+    pub own_form : canon R.order l ≡ Ok cl
+    pub target_form : canon R.order m ≡ Ok cm
     pub moves : shortcut cl cm ≡ false
-    pub own_is : ready (over l (common R.order cl cm)) ≡ given own
-    pub target_is : canon R.order (over m (common R.order cl cm)) ≡ given t
+    pub own_is : ready (over l (common R.order cl cm)) ≡ Ok own
+    pub target_is : canon R.order (over m (common R.order cl cm)) ≡ Ok t
 
   -- n is the count: what it was, by a shortcut, or that and what all factors of both take
   pub data Took (n : ℕ) : Type 0 where
-    kept : (cl cm : List Factor) → canon R.order l ≡ given cl → canon R.order m ≡ given cm → shortcut cl cm ≡ true → n ≡ x.count → Took n
+    kept : (cl cm : List Factor) → canon R.order l ≡ Ok cl → canon R.order m ≡ Ok cm → shortcut cl cm ≡ true → n ≡ x.count → Took n
     scaled : (own t : List Factor) → Scaled own t → n ≡ x.count + (costs own + costs t) → Took n
 
   abbrev Right : Outcome Tally → Type 0
@@ -91,14 +91,14 @@ module _ (R : Rules Float) (ready : List Factor → Outcome (List Factor)) (l m 
 
   -- by a shortcut nothing is counted
   abbrev pub Stays : Type 0
-  Stays = (cl cm : List Factor) → canon R.order l ≡ given cl → canon R.order m ≡ given cm → shortcut cl cm ≡ true
+  Stays = (cl cm : List Factor) → canon R.order l ≡ Ok cl → canon R.order m ≡ Ok cm → shortcut cl cm ≡ true
 
   pub stays : Stays → (n : ℕ) → Took n → n ≡ x.count
   stays h n (kept cl cm el em e p) = p
   stays h n (scaled own t s p) = absurd (true≢false (sym (h s.cl s.cm s.own_form s.target_form) ∙ s.moves))
 
   -- the target over the common factors, merged, is what is left of its form
-  pub target_lessened : Weak R.order → {own t : List Factor} (s : Scaled own t) → lessen R.order s.cm (map inverted (common R.order s.cl s.cm)) ≡ given t
+  pub target_lessened : Weak R.order → {own t : List Factor} (s : Scaled own t) → lessen R.order s.cm (map inverted (common R.order s.cl s.cm)) ≡ Ok t
   target_lessened O s = sym (over_common R.order O l m s.cl s.cm s.own_form s.target_form) ∙ s.target_is
 
 -- ---- by order 3's rule both scales have at most as many factors as the lists: k

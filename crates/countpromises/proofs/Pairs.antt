@@ -9,7 +9,7 @@ use borrow.Author.Tests.{eqb-true, leb-true, ltb-true, ltb-false, lt-leb}
 use lib.IntN.{ℤ, pos, negsuc, nat_abs, ◌+ℤ◌, ◌*ℤ◌, one, *ℤ-one}
 use lib.Signed.{quot_z, lt_z}
 use lib.ListN.{length}
-use Rattle.exponents.specs.Outcome.{given}
+use Rattle.exponents.specs.Outcome.{Ok}
 use Rattle.exponents.specs.Fractions.{lowest, add, neg, add?, less, nought, faulty, most}
 use Rattle.exponents.specs.declared.Exponent.{Exponent}
 use Rattle.exponents.proofs.Divisors.{gcd-one}
@@ -22,8 +22,7 @@ use Rattle.exponents.proofs.Words.{pick_by}
 use Rattle.floats.specs.Power.{bits_of, bits, multiplications, power_count}
 use Rattle.floats.proofs.Laws.{bits_step}
 use Rattle.floats.proofs.Counting.{set, bit-most, count_none, power_formula, magnitude_most}
-use Rattle.common.specs.declared.Shared.{Shared}
-use Rattle.common.specs.declared.Shared.TheVariants.{Takes, Nothing}
+use Rattle.std.specs.Prelude.{Option, Some, None}
 use Rattle.common.specs.Common.{meet}
 use Rattle.countpromises.proofs.Costs.{all, one_of, raising, raising_most}
 
@@ -78,10 +77,10 @@ pub data Inner (x y : Exponent) : Type 0 where
   down : less x nought ≡ true → less y nought ≡ true → less x y ≡ false → Inner x y
 
 -- what is shared is the second exponent, or the first where it is the inner one
-data Meets (x y : Exponent) : Shared → Type 0 where
-  second : Meets x y (Takes y)
-  first : Inner x y → Meets x y (Takes x)
-  none : Meets x y Nothing
+data Meets (x y : Exponent) : Option Exponent → Type 0 where
+  second : Meets x y (Some y)
+  first : Inner x y → Meets x y (Some x)
+  none : Meets x y None
 
 meets : (x y : Exponent) → Meets x y (meet x y)
 unfolding meet
@@ -159,7 +158,7 @@ raising_nought = refl
 module _ (x y e : Exponent) (fx : faulty x ≡ false) (fy : faulty y ≡ false) where
   -- s is shared
   abbrev pub Most : Exponent → Type 0
-  Most s = add? y (neg s) ≡ given e → (raising x + (raising s + raising e) ≤ 177) × (raising s + raising e ≤ 118)
+  Most s = add? y (neg s) ≡ Ok e → (raising x + (raising s + raising e) ≤ 177) × (raising s + raising e ≤ 118)
 
   -- the inner one is taken out: either isn't whole, or their sizes add up to that of y
   inner_most : Inner x y → Most x
@@ -179,11 +178,11 @@ module _ (x y e : Exponent) (fx : faulty x ≡ false) (fy : faulty y ≡ false) 
       let z : raising e ≡ 0 = ap raising (sym (ranged_exact (add y (neg y)) e p).0 ∙ add-neg (sound y fy).1) ∙ raising_nought in
       (omega (arith, z, raising_most x fx, raising_most y fy), omega (arith, z, raising_most y fy))
 
-  by_meet : (s : Exponent) {o : Shared} → Meets x y o → o ≡ Takes s → Most s
+  by_meet : (s : Exponent) {o : Option Exponent} → Meets x y o → o ≡ Some s → Most s
   by_meet s second g = subst Most (let n : y ≡ s = cc in n) outer_most
   by_meet s (first h) g = subst Most (let n : x ≡ s = cc in n) (inner_most h)
   by_meet s none g = let z : ◌≡◌ {A = ℕ} 0 1 = cc in absurd (omega arith)
 
   -- THEOREM: what x and y share, and what is left of y, take at most 118, and 177 with x
-  pub shared_most : (s : Exponent) → meet x y ≡ Takes s → Most s
+  pub shared_most : (s : Exponent) → meet x y ≡ Some s → Most s
   shared_most s = by_meet s (meets x y)

@@ -1,4 +1,5 @@
 // The counted conversions as C functions over lent bytes: the table, the quantity, the target, then the room for the answer.
+// Kept: the C interface: a function for each call, with numbers for its refusals.
 ghost use Rattle.askcounted.specs.Calls as spec;
 ghost use Rattle.demsharin.specs.Exports.{Exported};
 

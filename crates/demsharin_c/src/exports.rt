@@ -1,5 +1,6 @@
 // Every call of the byte form as a C function over lent bytes: the table, the arguments in order, then the room for the
 // answer, each as a pointer and a length; the refusal's number, 0 for answered.
+// Kept: the C interface: a function for each call, with numbers for its refusals.
 ghost use Rattle.asklists.specs.Calls as lists;
 ghost use Rattle.askvalues.specs.Calls as values;
 ghost use Rattle.asksimplify.specs.Calls as simplify;

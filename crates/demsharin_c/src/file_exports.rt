@@ -1,5 +1,6 @@
 // The calls on table files as C functions over lent bytes: the table or the file, then the room for the answer, which says
 // how much is lent for a file, or for how many rows: what it has behind two numbers.
+// Kept: the C interface: a function for each call, with numbers for its refusals.
 ghost use Rattle.askfiles.specs.Calls as files;
 ghost use Rattle.demsharin.specs.Exports.{Exported, file_room, row_places};
 

@@ -1,4 +1,5 @@
 // The calls on knot vectors as C functions over lent bytes: the table, the knots, the rule, then the room for the answer.
+// Kept: the C interface: a function for each call, with numbers for its refusals.
 ghost use Rattle.askknots.specs.Calls as spec;
 ghost use Rattle.demsharin.specs.Exports.{Exported};
 

@@ -7,7 +7,7 @@ use native.Mathlib.Omega.{arith}
 use lib.IntN.{nat_abs}
 use lib.Dec.{ltb}
 use borrow.Author.Tests.{ltb-true, ltb-false, lt-ltb, le-ltb}
-use Rattle.exponents.specs.Outcome.{Refusal, RANGE, DENOMINATOR, given, refused, unless}
+use Rattle.exponents.specs.Outcome.{Refusal, RANGE, DENOMINATOR, Ok, Err, unless}
 use Rattle.exponents.specs.Gcd.{lcm}
 use Rattle.exponents.specs.Fractions.{most, numerator_beyond, denominator_beyond, ranged, lcm?}
 use Rattle.exponents.specs.declared.Exponent.{Exponent}
@@ -49,13 +49,13 @@ outside_beyond d (inr h) = rw (lt-ltb most d h, or-true)
 
 -- the two tests in turn: what either refusal tells
 module _ {A : Type 0} (a : A) where
-  first-told : (s t : Bool) → unless s RANGE (unless t DENOMINATOR (given a)) ≡ refused RANGE → s ≡ true
+  first-told : (s t : Bool) → unless s RANGE (unless t DENOMINATOR (Ok a)) ≡ Err RANGE → s ≡ true
   unfolding unless
   first-told true t e = refl
   first-told false true e = absurd (let z : ◌≡◌ {A = ℕ} 0 1 = cc in omega arith)
   first-told false false e = absurd (let z : ◌≡◌ {A = ℕ} 0 1 = cc in omega arith)
 
-  second-told : (s t : Bool) → unless s RANGE (unless t DENOMINATOR (given a)) ≡ refused DENOMINATOR → (s ≡ false) × (t ≡ true)
+  second-told : (s t : Bool) → unless s RANGE (unless t DENOMINATOR (Ok a)) ≡ Err DENOMINATOR → (s ≡ false) × (t ≡ true)
   unfolding unless
   second-told true t e = absurd (let z : ◌≡◌ {A = ℕ} 0 1 = cc in omega arith)
   second-told false true e = (refl, refl)
@@ -63,12 +63,12 @@ module _ {A : Type 0} (a : A) where
 
 module _ (x : Exponent) where
   -- THEOREM: RANGE exactly where the numerator leaves its range
-  pub range_exactly : (ranged x ≡ refused RANGE) ↔ (most < nat_abs x.num)
+  pub range_exactly : (ranged x ≡ Err RANGE) ↔ (most < nat_abs x.num)
   unfolding ranged unless
   range_exactly = (λ e. ltb-true _ _ (first-told x (numerator_beyond x.num) (denominator_beyond x.den) e), λ h. rw (lt-ltb most (nat_abs x.num) h))
 
   -- THEOREM: DENOMINATOR exactly where the numerator is in its range and the denominator leaves it
-  pub denominator_exactly : (ranged x ≡ refused DENOMINATOR) ↔ ((nat_abs x.num ≤ most) × Outside x.den)
+  pub denominator_exactly : (ranged x ≡ Err DENOMINATOR) ↔ ((nat_abs x.num ≤ most) × Outside x.den)
   unfolding ranged unless
   denominator_exactly = (
     λ e. let k = second-told x (numerator_beyond x.num) (denominator_beyond x.den) e in (ltb-false _ _ k.0, outside x.den k.1),
@@ -76,6 +76,6 @@ module _ (x : Exponent) where
   )
 
 -- THEOREM: a common multiple is refused by DENOMINATOR exactly where it leaves a denominator's range
-pub multiple_exactly : (a b : ℕ) → (lcm? a b ≡ refused DENOMINATOR) ↔ Outside (lcm a b)
+pub multiple_exactly : (a b : ℕ) → (lcm? a b ≡ Err DENOMINATOR) ↔ Outside (lcm a b)
 unfolding lcm? unless
 multiple_exactly a b = (λ e. outside (lcm a b) (second-told (lcm a b) false (denominator_beyond (lcm a b)) e).1, λ h. rw (outside_beyond (lcm a b) h))

@@ -23,3 +23,5 @@ pub mod Summing
 pub mod Places
 pub mod Each
 pub mod Examples
+pub mod Handed
+pub mod Taking

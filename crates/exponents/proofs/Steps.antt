@@ -2,10 +2,10 @@
 use mathlib.Core.Path.{◌≡◌, refl}
 use mathlib.Core.Bool.{true, false}
 use mathlib.Core.List.{List, [], ◌∷◌}
-use Rattle.exponents.specs.Outcome.{Refusal, Outcome, given, refused, unless, apply, bind, each}
+use Rattle.exponents.specs.Outcome.{Refusal, Outcome, Ok, Err, unless, apply, bind, each}
 
 module _ {A : Type 0} where
-  pub unless_on : (r : Refusal) (o : Outcome A) → unless true r o ≡ refused r
+  pub unless_on : (r : Refusal) (o : Outcome A) → unless true r o ≡ Err r
   unfolding unless
   unless_on r o = refl
 
@@ -14,15 +14,15 @@ module _ {A : Type 0} where
   unless_off r o = refl
 
 module _ {A B : Type 0} where
-  pub bind_on : (a : A) (f : A → Outcome B) → bind (given a) f ≡ f a
+  pub bind_on : (a : A) (f : A → Outcome B) → bind (Ok a) f ≡ f a
   unfolding bind
   bind_on a f = refl
 
-  pub bind_off : (r : Refusal) (f : A → Outcome B) → bind (refused r) f ≡ refused r
+  pub bind_off : (r : Refusal) (f : A → Outcome B) → bind (Err r) f ≡ Err r
   unfolding bind
   bind_off r f = refl
 
-  pub each_none : (f : A → Outcome B) → each f [] ≡ given []
+  pub each_none : (f : A → Outcome B) → each f [] ≡ Ok []
   unfolding each
   each_none f = refl
 

@@ -1,14 +1,10 @@
 -- How code works exponents out and hands them over. No rule stands here: nothing that a call promises names these.
 use Rattle.std.specs.Prelude.{Bool, true, false, not, ℕ, ℤ, pos, neg_ℤ, ◌*ℤ◌}
 use Rattle.std.specs.Int.Signed.{le_z}
-use Rattle.exponents.specs.Outcome.{Outcome, given, refused, number, unless, bind}
+use Rattle.exponents.specs.Outcome.{Outcome, unless, bind}
 use Rattle.exponents.specs.Gcd.{gcd, euclid, lcm}
 use Rattle.exponents.specs.Fractions.{lowest, add, mul, neg, invert, div, less, same_z, same, beyond, faulty, ranged, sum?, lcm?}
 use Rattle.exponents.specs.declared.Exponent.{Exponent}
-use Rattle.exponents.specs.declared.Fraction.{Fraction}
-use Rattle.exponents.specs.declared.Fraction.TheVariants.{Exact, Refused}
-use Rattle.exponents.specs.declared.Multiple.{Multiple}
-use Rattle.exponents.specs.declared.Multiple.TheVariants.{Common, Refused as NoMultiple}
 
 -- ---- a signed number given as a sign and a magnitude
 
@@ -28,16 +24,6 @@ at_most x y = le_z (x.num *ℤ pos y.den) (y.num *ℤ pos x.den)
 
 abbrev pub neg? : Exponent → Outcome Exponent
 neg? x = ranged (lowest (neg_ℤ x.num) x.den)
-
--- ---- how code hands them over
-
-abbrev pub fraction_of : Outcome Exponent → Fraction
-fraction_of (given x) = Exact x
-fraction_of (refused r) = Refused (number r)
-
-abbrev pub multiple_of : Outcome ℕ → Multiple
-multiple_of (given m) = Common m
-multiple_of (refused r) = NoMultiple (number r)
 
 -- `unfolding worked` opens what exponents compute with
 unfoldable pub worked : Unit {0}

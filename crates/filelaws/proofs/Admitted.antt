@@ -8,7 +8,7 @@ use borrow.Author.Tests.{ltb-true, ltb-false, eqb-true, not-false}
 use lib.Dec.{ltb, eqb}
 use lib.ListN.{length, get_or, take}
 use Rattle.exponents.specs.Words.{All}
-use Rattle.exponents.specs.Outcome.{given}
+use Rattle.exponents.specs.Outcome.{Ok}
 use Rattle.exponents.proofs.Each.{all_imp, all_by, all_both}
 use Rattle.exponents.proofs.InRange.{or_left, or_right}
 use Rattle.floats.specs.Values.{is_positive}
@@ -73,7 +73,7 @@ pub record RowByRow (t : Rows) (ks : List Facts) : Type 0 where
   pub all : length ks ≡ length (rows_of t)
   pub at : (d : Row) (i : ℕ) → i < length (rows_of t) → Kept i (get_or (rows_of t) i d)
 
-pub admitted_rows : (t : Rows) (ks : List Facts) → table t ≡ given ks → RowByRow t ks
+pub admitted_rows : (t : Rows) (ks : List Facts) → table t ≡ Ok ks → RowByRow t ks
 admitted_rows t ks e =
     let a = admits t ks e in
     let ss = slots (rows_of t) in
@@ -85,5 +85,5 @@ admitted_rows t ks e =
       at = λ d i h. let k = row_known ss (rows_of t) ks from d i h in kept_by (take i ks) i (get_or (rows_of t) i d) k.table k.shape (names_lower ss (rows_of t) ks from d i h);
     }
 
-pub admitted_all : (t : Rows) (ks : List Facts) → table t ≡ given ks → All (Kept 128) (rows_of t)
+pub admitted_all : (t : Rows) (ks : List Facts) → table t ≡ Ok ks → All (Kept 128) (rows_of t)
 admitted_all t ks e = let a = admitted_rows t ks e in all_by (Kept 128) nil_row (rows_of t) (λ i l. kept_more i 128 (get_or (rows_of t) i nil_row) (omega (arith, a.few)) (a.at nil_row i l))

@@ -11,7 +11,7 @@ use lib.Ieee.{binary64, to_bits}
 use lib.IntN.{ℤ, pos, negsuc, nat_abs}
 use lib.ListN.{length, get_or, length-append, length-take}
 use Rattle.exponents.specs.Words.{pick, All}
-use Rattle.exponents.specs.Outcome.{given}
+use Rattle.exponents.specs.Outcome.{Ok}
 use Rattle.exponents.proofs.Each.{all_imp, all_both, all_by}
 use Rattle.exponents.proofs.Words.{pick_is}
 use Rattle.units.specs.declared.Prefix.{Prefix}
@@ -125,10 +125,6 @@ module _ (b : ℕ) (r : Row) (h : Kept 128 r) (k : Ranked b r) where
   pub row_most : length (row_file r) ≤ b + 122
   row_most = omega (arith, row_short, length-take r.len r.def, h.few)
 
-pub base_short : (r : Row) → r.kind ≡ Base → r.rank ≤ 65535 → length (row_file r) ≤ 4
-unfolding row_file kind_file
-base_short r e k = rw e (omega (arith, length-append (number_bytes r.rank) (number_bytes 0), word_ranked r k, number-below 1 0 (omega arith) (omega arith)))
-
 -- the first row has no factors: there is none before it
 pub first_short : (b : ℕ) (r : Row) → Kept 0 r → Ranked b r → length (row_file r) ≤ b + 10
 first_short b r h k = omega (arith, row_short b r (kept_more 0 128 r (omega arith) h) k, none (def_of r) h.lower)
@@ -149,16 +145,16 @@ module _ (b : ℕ) where
       let m : length rs * (b + 122) ≤ 127 * (b + 122) = mul-le-mul_right (b + 122) (omega arith) in
       omega (arith, length-append (row_file r) (run_bytes row_file rs), first_short b r (h nil_row 0 (omega arith)) k.0)
 
-  file_short : (t : Rows) (ks : List Facts) → table t ≡ given ks → All (Ranked b) (rows_of t) → length (table_file (rows_of t)) ≤ b + 12 + 127 * (b + 122)
+  file_short : (t : Rows) (ks : List Facts) → table t ≡ Ok ks → All (Ranked b) (rows_of t) → length (table_file (rows_of t)) ≤ b + 12 + 127 * (b + 122)
   unfolding table_file
   file_short t ks e k =
       let a = admitted_rows t ks e in
       let n = number-below 2 (length (rows_of t)) (omega arith) (omega arith) in
       omega (arith, length-append (number_bytes (length (rows_of t))) (run_bytes row_file (rows_of t)), rows_short (rows_of t) a.few a.at k)
 
-pub table-short : (t : Rows) (ks : List Facts) → table t ≡ given ks → All (λ r. r.rank ≤ 65535) (rows_of t) → length (table_file (rows_of t)) ≤ 15890
+pub table-short : (t : Rows) (ks : List Facts) → table t ≡ Ok ks → All (λ r. r.rank ≤ 65535) (rows_of t) → length (table_file (rows_of t)) ≤ 15890
 table-short t ks e k = file_short 3 t ks e (all_imp (rows_of t) word_ranked k)
 
 -- whatever the ranks are
-pub table_brief : (t : Rows) (ks : List Facts) → table t ≡ given ks → length (table_file (rows_of t)) ≤ 16146
+pub table_brief : (t : Rows) (ks : List Facts) → table t ≡ Ok ks → length (table_file (rows_of t)) ≤ 16146
 table_brief t ks e = file_short 5 t ks e (all_by (Ranked 5) nil_row (rows_of t) (λ i l. any_ranked (get_or (rows_of t) i nil_row)))

@@ -12,7 +12,7 @@ use lib.IntN.{pos}
 use lib.ListN.{length, replicate, length-append}
 use lib.Seq.{take_all}
 use Rattle.exponents.specs.Words.{All}
-use Rattle.exponents.specs.Outcome.{given, unless, bind, each}
+use Rattle.exponents.specs.Outcome.{Ok, unless, bind, each}
 use Rattle.exponents.specs.Gcd.{gcd, euclid}
 use Rattle.exponents.specs.Fractions.{beyond, faulty}
 use Rattle.exponents.proofs.Each.{all_imp}
@@ -67,11 +67,11 @@ unfoldable computed : Unit {0}
 unfolding unless bind each bits_of raise power mul eq of_bits some factor_fault beyond faulty multiple wholes reduce divisor below shrink key base places raised_to scales.raise scale_from_lem scale_at is_base kind_fault count table_fault row_exps row_scale worked_out row_facts
 computed = tt
 
-first_facts : row_facts [] [] first_row ≡ given (fact 65408)
+first_facts : row_facts [] [] first_row ≡ Ok (fact 65408)
 unfolding computed
 first_facts = refl
 
-long_worked : (ks : List Facts) (rank : ℕ) → worked_out [] (fact 65408 ∷ ks) (long_row rank) ≡ given (fact rank)
+long_worked : (ks : List Facts) (rank : ℕ) → worked_out [] (fact 65408 ∷ ks) (long_row rank) ≡ Ok (fact rank)
 unfolding computed
 long_worked ks rank = refl
 
@@ -95,7 +95,7 @@ module _ (ks : List Facts) (rank : ℕ) (h : All (λ k. k.rank < rank) (fact 654
   unfolding table_fault
   long_table = rw (fresh, long_kind (count (fact 65408 ∷ ks)), long_lower (length (fact 65408 ∷ ks)) (omega arith))
 
-  long_facts : row_facts [] (fact 65408 ∷ ks) (long_row rank) ≡ given (fact rank)
+  long_facts : row_facts [] (fact 65408 ∷ ks) (long_row rank) ≡ Ok (fact rank)
   unfolding row_facts unless
   long_facts = rw (long_table, long_shape) (long_worked ks rank)
 
@@ -137,7 +137,7 @@ admits : admit longest ≡ admitted its_facts.0
 unfolding admit longest
 admits = rw (its_rows, its_slots) its_facts.1
 
-pub longest_admitted : (ks : List Facts) × (table longest ≡ given ks)
+pub longest_admitted : (ks : List Facts) × (table longest ≡ Ok ks)
 longest_admitted = (its_facts.0, ap known admits)
 
 -- ---- and so long

@@ -12,7 +12,7 @@ use lib.Signed.{mag, lt_z}
 use lib.ListN.{length}
 use lib.Seq.{length-take-le}
 use Rattle.exponents.specs.Words.{All}
-use Rattle.exponents.specs.Outcome.{given}
+use Rattle.exponents.specs.Outcome.{Ok}
 use Rattle.exponents.specs.Fractions.{most, faulty}
 use Rattle.exponents.proofs.Each.{all_imp, all_both}
 use Rattle.exponents.proofs.InRange.{InRange, or_left, sound}
@@ -82,7 +82,7 @@ kind_fits (Derived x) r n p a w = (w, n, length-take-le r.len r.def (omega arith
 pub row_fits : (r : Row) → Kept 128 r → Worded r → RowFits r
 row_fits r k w = record { rank = w.rank; kind = kind_fits r.kind r k.few w.places (all_imp (def_of r) (λ f s. factor-fits f s.0 s.1) (kept_sound 128 r k)) w.factor }
 
-pub admitted_fits : (t : Rows) (ks : List Facts) → table t ≡ given ks → All Worded (rows_of t) → All RowFits (rows_of t)
+pub admitted_fits : (t : Rows) (ks : List Facts) → table t ≡ Ok ks → All Worded (rows_of t) → All RowFits (rows_of t)
 admitted_fits t ks e w = all_imp (rows_of t) (λ r h. row_fits r h.0 h.1) (all_both (Kept 128) Worded (rows_of t) (admitted_all t ks e) w)
 
 -- ---- a positive factor isn't NaN
@@ -97,5 +97,5 @@ plain_kind : (k : Kind) (r : Row) → KindKept k r → Plain k
 plain_kind Base r h = tt
 plain_kind (Derived x) r h = plain x h
 
-pub admitted_plain : (t : Rows) (ks : List Facts) → table t ≡ given ks → All (λ r. Plain r.kind) (rows_of t)
+pub admitted_plain : (t : Rows) (ks : List Facts) → table t ≡ Ok ks → All (λ r. Plain r.kind) (rows_of t)
 admitted_plain t ks e = all_imp (rows_of t) (λ r k. plain_kind r.kind r k.kind) (admitted_all t ks e)

@@ -5,7 +5,7 @@ use Prim.Native.Nat.{ℕ, ◌-◌, ◌≤◌}
 use native.Mathlib.Omega.{arith}
 use borrow.Author.Tests.{le-leb}
 use lib.ListN.{length}
-use Rattle.exponents.specs.Outcome.{given}
+use Rattle.exponents.specs.Outcome.{Ok}
 use Rattle.units.specs.declared.Row.{Row}
 use Rattle.beginnings.proofs.Counted.{Whole}
 use Rattle.groups.specs.Taken.{taken, then}
@@ -34,7 +34,7 @@ front_read places s rs t d h f =
     rw (d, le-leb (length rs) places h, a)
 
 module _ (places : ℕ) (s : List ℕ) (rs : List Row) where
-  pub read_kept : read_table places s ≡ given rs → (salvage places s ≡ (rs, length s)) × ((t : List ℕ) × (number? s ≡ taken (length rs) t))
+  pub read_kept : read_table places s ≡ Ok rs → (salvage places s ≡ (rs, length s)) × ((t : List ℕ) × (number? s ≡ taken (length rs) t))
   read_kept e =
       let r = read_told places s rs e in
       let c = counted places s rs r.left r.formed in
@@ -44,7 +44,7 @@ module _ (places : ℕ) (s : List ℕ) (rs : List Row) where
       let end : length s - length (kept_from c.count c.left).1 ≡ length s = omega (arith, ap (λ (p : List Row × List ℕ). length p.1) k) in
       (all ∙ (λ i. ((k i).0, end i)), (c.left, c.number ∙ ap (λ m. taken m c.left) (sym c.all)))
 
-  pub kept_read : (t : List ℕ) → salvage places s ≡ (rs, length s) → number? s ≡ taken (length rs) t → read_table places s ≡ given rs
+  pub kept_read : (t : List ℕ) → salvage places s ≡ (rs, length s) → number? s ≡ taken (length rs) t → read_table places s ≡ Ok rs
   kept_read t e d =
       let few = kept_few places s in
       let long = ap (λ (p : List Row × ℕ). length p.0) e in

@@ -6,7 +6,7 @@ use native.Mathlib.Omega.{arith}
 use lib.Ieee.{binary64, of_bits, to_bits, mul, eq}
 use lib.IntN.{pos, negsuc}
 use lib.ListN.{length, replicate}
-use Rattle.exponents.specs.Outcome.{TABLE, SHAPE, FORMAT, given, unless, bind, each, number, refusal_of}
+use Rattle.exponents.specs.Outcome.{TABLE, SHAPE, FORMAT, Ok, unless, bind, each, number, refusal_of}
 use Rattle.exponents.specs.Held.{worked}
 use Rattle.floats.specs.Power.{bits_of, raise, power}
 use Rattle.units.specs.declared.Prefix.TheVariants.{Metric, Binary}
@@ -152,7 +152,7 @@ read_so = refl
 
 -- ---- written
 
-pub none_written : write_table (lent_rows_lem []) ≡ given (0 ∷ [])
+pub none_written : write_table (lent_rows_lem []) ≡ Ok (0 ∷ [])
 unfolding compute
 none_written = refl
 
@@ -176,10 +176,10 @@ small_file =
     ∷ 0 ∷ 0 ∷ 6 ∷ 2 ∷ 1
     ∷ []
 
-pub small_written : write_table (lent_rows_lem small) ≡ given small_file
+pub small_written : write_table (lent_rows_lem small) ≡ Ok small_file
 unfolding compute
 small_written = refl
 
-pub small_read : read_table 2 small_file ≡ given small
+pub small_read : read_table 2 small_file ≡ Ok small
 unfolding compute
 small_read = refl

@@ -6,7 +6,7 @@ use Prim.Native.Nat.{ℕ, ◌+◌, ◌-◌, ◌≤◌, ◌<◌}
 use native.Mathlib.Omega.{arith}
 use lib.ListN.{length, take, length-append}
 use Rattle.exponents.specs.Words.{All}
-use Rattle.exponents.specs.Outcome.{Refusal, given, refused}
+use Rattle.exponents.specs.Outcome.{Refusal, Ok, Err}
 use Rattle.units.specs.declared.Row.{Row}
 use Rattle.units.specs.declared.Rows.{Rows}
 use Rattle.lent.specs.Lent.{lent_rows_lem}
@@ -37,15 +37,15 @@ use Rattle.filepromises.proofs.Written.{write_told, file_cleaned, reads, short-c
 
 -- ---- one admitted table has one file, and reading it gives the table back
 
-module _ (t : Rows) (f : List ℕ) (e : write_table t ≡ given f) (w : All Worded (rows_of t)) where
-  pub read_written : (places : ℕ) → length (rows_of t) ≤ places → read_table places f ≡ given (read_back_lem t)
+module _ (t : Rows) (f : List ℕ) (e : write_table t ≡ Ok f) (w : All Worded (rows_of t)) where
+  pub read_written : (places : ℕ) → length (rows_of t) ≤ places → read_table places f ≡ Ok (read_back_lem t)
   read_written places h =
       let o = write_told t f e in
-      subst (λ s. read_table places s ≡ given (read_back_lem t)) o.is (reads t o.known o.admitted w places h)
+      subst (λ s. read_table places s ≡ Ok (read_back_lem t)) o.is (reads t o.known o.admitted w places h)
 
   -- exactly the table, where nothing stands past its definitions
-  pub read_clean : (places : ℕ) → length (rows_of t) ≤ places → All (λ r. cleaned r ≡ r) (rows_of t) → read_table places f ≡ given (rows_of t)
-  read_clean places h c = read_written places h ∙ ap given (same (rows_of t) c)
+  pub read_clean : (places : ℕ) → length (rows_of t) ≤ places → All (λ r. cleaned r ≡ r) (rows_of t) → read_table places f ≡ Ok (rows_of t)
+  read_clean places h c = read_written places h ∙ ap Ok (same (rows_of t) c)
     where
       same : (rs : List Row) → All (λ r. cleaned r ≡ r) rs → map cleaned rs ≡ rs
       same [] c = refl
@@ -56,31 +56,31 @@ module _ (t : Rows) (f : List ℕ) (e : write_table t ≡ given f) (w : All Word
   written_same = let o = write_told t f e in file_cleaned t o.known o.admitted w ∙ o.is
 
 -- so two tables have one file exactly if they differ in nothing that is read
-pub same_file : (t u : Rows) (f g : List ℕ) → write_table t ≡ given f → write_table u ≡ given g → All Worded (rows_of t) → All Worded (rows_of u) → (f ≡ g) ↔ (read_back_lem t ≡ read_back_lem u)
+pub same_file : (t u : Rows) (f g : List ℕ) → write_table t ≡ Ok f → write_table u ≡ Ok g → All Worded (rows_of t) → All Worded (rows_of u) → (f ≡ g) ↔ (read_back_lem t ≡ read_back_lem u)
 same_file t u f g e d w v = (there, λ h. sym (written_same t f e w) ∙ ap table_file h ∙ written_same u g d v)
   where
     there : f ≡ g → read_back_lem t ≡ read_back_lem u
     there h =
         let n = length (rows_of t) + length (rows_of u) in
-        let z : given (read_back_lem t) ≡ given (read_back_lem u) = sym (read_written t f e w n (omega arith)) ∙ ap (read_table n) h ∙ read_written u g d v n (omega arith) in
+        let z : Ok (read_back_lem t) ≡ Ok (read_back_lem u) = sym (read_written t f e w n (omega arith)) ∙ ap (read_table n) h ∙ read_written u g d v n (omega arith) in
         cc
 
 -- what is read is written as the very bytes that it was read from
-pub file_only : (places : ℕ) (s : List ℕ) (rs : List Row) → Bytes s → read_table places s ≡ given rs → write_table (lent_rows_lem rs) ≡ given s
+pub file_only : (places : ℕ) (s : List ℕ) (rs : List Row) → Bytes s → read_table places s ≡ Ok rs → write_table (lent_rows_lem rs) ≡ Ok s
 file_only places s rs b e =
     let r = read_told places s rs e in
     let same = rows_back rs (read_few places s rs e).0 in
     let plain = subst (All (λ r. Plain r.kind)) same (admitted_plain (lent_rows_lem rs) r.known r.admitted) in
-    file_is (lent_rows_lem rs) r.known r.admitted ∙ ap (λ l. given (table_file l)) same ∙ ap given (sym ((table_only places s rs r.left b r.formed).written plain))
+    file_is (lent_rows_lem rs) r.known r.admitted ∙ ap (λ l. Ok (table_file l)) same ∙ ap Ok (sym ((table_only places s rs r.left b r.formed).written plain))
 
 -- so two files that read as the same rows are the same file
-pub one_file : (places more : ℕ) (s u : List ℕ) (rs : List Row) → Bytes s → Bytes u → read_table places s ≡ given rs → read_table more u ≡ given rs → s ≡ u
-one_file places more s u rs b c e d = let z : given s ≡ given u = sym (file_only places s rs b e) ∙ file_only more u rs c d in cc
+pub one_file : (places more : ℕ) (s u : List ℕ) (rs : List Row) → Bytes s → Bytes u → read_table places s ≡ Ok rs → read_table more u ≡ Ok rs → s ≡ u
+one_file places more s u rs b c e d = let z : Ok s ≡ Ok u = sym (file_only places s rs b e) ∙ file_only more u rs c d in cc
 
 -- ---- read and salvage
 
 -- read answers exactly if salvage keeps all rows that the file counts and ends at the file's end
-pub read_exactly : (places : ℕ) (s : List ℕ) (rs : List Row) → (read_table places s ≡ given rs) ↔ ((salvage places s ≡ (rs, length s)) × Counts s (length rs))
+pub read_exactly : (places : ℕ) (s : List ℕ) (rs : List Row) → (read_table places s ≡ Ok rs) ↔ ((salvage places s ≡ (rs, length s)) × Counts s (length rs))
 read_exactly places s rs = (read_kept places s rs, λ h. kept_read places s rs h.1.0 h.0 h.1.1)
 
 -- ---- what salvage keeps
@@ -116,7 +116,7 @@ module _ (places n : ℕ) (s t : List ℕ) (e : number? s ≡ taken n t) where
 
 -- ---- a written file, cut anywhere, keeps exactly its whole rows
 
-module _ (t : Rows) (f : List ℕ) (e : write_table t ≡ given f) (w : All Worded (rows_of t)) (places : ℕ) (h : length (rows_of t) ≤ places) where
+module _ (t : Rows) (f : List ℕ) (e : write_table t ≡ Ok f) (w : All Worded (rows_of t)) (places : ℕ) (h : length (rows_of t) ≤ places) where
   -- how many bytes the count takes
   abbrev count_bytes : ℕ
   count_bytes = length (number_bytes (length (rows_of t)))
@@ -141,20 +141,20 @@ module _ (t : Rows) (f : List ℕ) (e : write_table t ≡ given f) (w : All Word
 
 -- rows put behind a table change no refusal in it, and take no row out of it
 pub no_later_rows : (rs qs : List Row) → length (rs ++ qs) ≤ 128
-    → ((r : Refusal) → table (lent_rows_lem rs) ≡ refused r → table (lent_rows_lem (rs ++ qs)) ≡ refused r) × (Admits (lent_rows_lem (rs ++ qs)) → Admits (lent_rows_lem rs))
+    → ((r : Refusal) → table (lent_rows_lem rs) ≡ Err r → table (lent_rows_lem (rs ++ qs)) ≡ Err r) × (Admits (lent_rows_lem (rs ++ qs)) → Admits (lent_rows_lem rs))
 no_later_rows rs qs h = (stays, λ a. whole_given rs few (begin_whole rs qs (given_whole (rs ++ qs) h a.0 a.1)))
   where
     few : length rs ≤ 128
     few = omega (arith, length-append rs qs)
 
-    stays : (r : Refusal) → table (lent_rows_lem rs) ≡ refused r → table (lent_rows_lem (rs ++ qs)) ≡ refused r
+    stays : (r : Refusal) → table (lent_rows_lem rs) ≡ Err r → table (lent_rows_lem (rs ++ qs)) ≡ Err r
     stays r e =
         let a = known_refused (admitting rs) r (sym (table_is rs few) ∙ e) in
         table_is (rs ++ qs) h ∙ ap known (later_stopped rs qs r a.0 a.1).1
 
 -- ---- how long
 
-module _ (t : Rows) (f : List ℕ) (e : write_table t ≡ given f) where
+module _ (t : Rows) (f : List ℕ) (e : write_table t ≡ Ok f) where
   -- no file exceeds 15,890 bytes
   pub file_longest : All (λ r. r.rank ≤ 65535) (rows_of t) → length f ≤ 15890
   file_longest k = let o = write_told t f e in omega (arith, table-short t o.known o.admitted k, ap length o.is)
@@ -164,7 +164,7 @@ module _ (t : Rows) (f : List ℕ) (e : write_table t ≡ given f) where
   file_brief = let o = write_told t f e in omega (arith, table_brief t o.known o.admitted, ap length o.is)
 
 -- and one that code can hold has so many
-pub file_longest_met : (t : Rows) × (f : List ℕ) × (write_table t ≡ given f) × All Worded (rows_of t) × (length f ≡ 15890)
+pub file_longest_met : (t : Rows) × (f : List ℕ) × (write_table t ≡ Ok f) × All Worded (rows_of t) × (length f ≡ 15890)
 file_longest_met = (longest, table_file (rows_of longest), file_is longest longest_admitted.0 longest_admitted.1, longest_worded, longest_met)
 
 -- the byte that salvage tells fits four bytes: a count takes at most 5, each of 128 rows 223

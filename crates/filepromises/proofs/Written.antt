@@ -6,7 +6,7 @@ use native.Mathlib.Omega.{arith}
 use lib.ListN.{length, take, drop, length-map, length-append, length-take, length-drop, take-append-drop}
 use lib.Seq.{take-append-add}
 use Rattle.exponents.specs.Words.{All}
-use Rattle.exponents.specs.Outcome.{Outcome, given, refused, apply}
+use Rattle.exponents.specs.Outcome.{Outcome, Ok, Err, apply}
 use Rattle.exponents.proofs.Each.{all_imp, all_both}
 use Rattle.units.specs.declared.Row.{Row}
 use Rattle.units.specs.declared.Rows.{Rows}
@@ -31,23 +31,23 @@ use Rattle.filepromises.proofs.Keeping.{kept-all, none_kept, salvage-all}
 -- what a written file tells
 pub record Written (t : Rows) (f : List ℕ) : Type 0 where
   pub known : List Facts
-  pub admitted : table t ≡ given known
+  pub admitted : table t ≡ Ok known
   pub is : table_file (rows_of t) ≡ f
 
-pub write_told : (t : Rows) (f : List ℕ) → write_table t ≡ given f → Written t f
+pub write_told : (t : Rows) (f : List ℕ) → write_table t ≡ Ok f → Written t f
 unfolding write_table
 write_told t f e = go (table t) refl e
   where
-    go : (o : Outcome (List Facts)) → table t ≡ o → apply (λ ks. table_file (rows_of t)) o ≡ given f → Written t f
-    go (given ks) p e = let z : table_file (rows_of t) ≡ f = cc in record { known = ks; admitted = p; is = z }
-    go (refused r) p e = absurd (let z : ◌≡◌ {A = ℕ} 0 1 = cc in omega arith)
+    go : (o : Outcome (List Facts)) → table t ≡ o → apply (λ ks. table_file (rows_of t)) o ≡ Ok f → Written t f
+    go (Ok ks) p e = let z : table_file (rows_of t) ≡ f = cc in record { known = ks; admitted = p; is = z }
+    go (Err r) p e = absurd (let z : ◌≡◌ {A = ℕ} 0 1 = cc in omega arith)
 
 all_take : {A : Type 0} (P : A → Type 0) (k : ℕ) (l : List A) → All P l → All P (take k l)
 all_take P zero l h = tt
 all_take P (suc k) [] h = tt
 all_take P (suc k) (a ∷ l) h = (h.0, all_take P k l h.1)
 
-module _ (t : Rows) (ks : List Facts) (e : table t ≡ given ks) (w : All Worded (rows_of t)) where
+module _ (t : Rows) (ks : List Facts) (e : table t ≡ Ok ks) (w : All Worded (rows_of t)) where
   alike : All (λ r. Alike (cleaned r) r) (rows_of t)
   alike = all_imp (rows_of t) (λ r h. cleaned_alike r h.0 h.1.places) (all_both (Kept 128) Worded (rows_of t) (admitted_all t ks e) w)
 
@@ -58,7 +58,7 @@ module _ (t : Rows) (ks : List Facts) (e : table t ≡ given ks) (w : All Worded
   own = admit-rows t ks (known_given (admit t) ks e)
 
   -- as they come back
-  pub table-cleaned : table (lent_rows_lem (map cleaned (rows_of t))) ≡ given ks
+  pub table-cleaned : table (lent_rows_lem (map cleaned (rows_of t))) ≡ Ok ks
   table-cleaned = table_is (map cleaned (rows_of t)) (omega (arith, length-map (rows_of t) cleaned, (admitted_rows t ks e).few)) ∙ ap known (admit_alike cleaned (rows_of t) alike ∙ own)
 
   begin_cleaned : (k : ℕ) → beginnings.Whole (map cleaned (take k (rows_of t)))
@@ -67,7 +67,7 @@ module _ (t : Rows) (ks : List Facts) (e : table t ≡ given ks) (w : All Worded
       record { known = whole.known; is = admit_alike cleaned (take k (rows_of t)) (all_take _ k (rows_of t) alike) ∙ whole.is }
 
   module _ (places : ℕ) (h : length (rows_of t) ≤ places) where
-    pub reads : read_table places (table_file (rows_of t)) ≡ given (map cleaned (rows_of t))
+    pub reads : read_table places (table_file (rows_of t)) ≡ Ok (map cleaned (rows_of t))
     reads =
         read_file places (table_file (rows_of t)) (map cleaned (rows_of t)) []
         (table_back places (rows_of t) h (omega (arith, (admitted_rows t ks e).few)) (admitted_fits t ks e w)) ks table-cleaned

@@ -1,50 +1,36 @@
 -- The code of a row: factors read into its places one after the other, and the row from its parts.
 use mathlib.Core.Path.{◌≡◌, refl, sym, ap, ap₂, ◌∙◌}
-use mathlib.Core.Bool.{true, false}
 use mathlib.Core.List.{List, [], ◌∷◌, ◌++◌, append_assoc, append-nil}
 use Prim.Native.Nat.{ℕ, zero, suc, ◌+◌, ◌-◌, ◌*◌, ◌≤◌, ◌<◌}
 use native.Mathlib.Nat.{add_assoc, sub-zero}
 use native.Mathlib.Omega.{arith}
-use borrow.Author.Tests.{le-leb, lt-leb, eq-eqb, ne_eqb}
+use borrow.Author.Tests.{le-leb, lt-leb}
 use lib.Ieee.{Float, binary64, of_bits}
 use lib.ListN.{length, set, drop, replicate, length-append, length-drop}
 use lib.Seq.{get_or-drop, drop-drop}
 use Rattle.units.specs.declared.Factor.{Factor}
 use Rattle.units.specs.declared.Kind.TheVariants.{Derived}
-use Rattle.units.specs.declared.Row.{Row}
 use Rattle.units.specs.Lists.{no_factor}
 use Rattle.wire.specs.Bytes.{le, pad_to}
 use Rattle.wire.proofs.Runs.{pad_push}
 use Rattle.groups.specs.Taken.{Taken, nothing, taken, then, run?}
 use Rattle.groups.specs.Numbers.{up_to?}
-use Rattle.files.specs.Records.{factor?, eight?, base_row, derived?, row?}
-use Rattle.filereads.specs.Held.{part_of, broken_places, places_of, broken_row, row_read_of}
-use Rattle.filereads.specs.declared.Part.{Part}
-use Rattle.filereads.specs.declared.Part.TheVariants.{Whole, Broken}
-use Rattle.filereads.specs.declared.Places.{Places}
-use Rattle.filereads.specs.declared.RowRead.{RowRead}
+use Rattle.files.specs.Records.{factor?, eight?, derived?}
+use Rattle.groups.specs.Held.{handed}
+use Rattle.filereads.specs.Held.{places_of}
+use Rattle.std.specs.declared.option.Option.{Option}
+use Rattle.std.specs.declared.option.Option.TheVariants.{None, Some}
 use Rattle.groups.proofs.Behind.{Then, first, parted, run_leaves}
-use Rattle.groups.proofs.Steps.{Read, read_at, behind}
+use Rattle.groups.proofs.Steps.{Read, read_at, behind, found, missing}
 use Rattle.files.proofs.Forms.{factor_leaves}
 
 -- ---- a factor found
 
-pub part_found : (s : List ℕ) (at i : ℕ) (f : Factor) (x : Part) → x ≡ part_of (length s) (factor? (drop at s)) → x ≡ Whole f i → Read factor? s at f i
-part_found s at i f x d e = go (factor? (drop at s)) refl (sym d ∙ e)
-  where
-    go : (o : Taken Factor) → factor? (drop at s) ≡ o → part_of (length s) o ≡ Whole f i → Read factor? s at f i
-    go nothing p e = let z : ◌≡◌ {A = ℕ} 0 1 = cc in absurd (omega arith)
-    go (taken g t) p e =
-        let a : g ≡ f = cc in
-        let b : i ≡ length s - length t = cc in
-        read_at {r = factor?} factor_leaves s at f t i (p ∙ ap (λ y. taken y t) a) b
+pub factor_found : (s : List ℕ) (at i : ℕ) (f : Factor) (x : Option (Factor × ℕ)) → x ≡ handed (length s) (factor? (drop at s)) → x ≡ Some (f, i) → Read factor? s at f i
+factor_found s at i f x d e = found {r = factor?} factor_leaves s at x d f i e
 
-pub part_broken : (s : List ℕ) (at : ℕ) (x : Part) → x ≡ part_of (length s) (factor? (drop at s)) → x ≡ Broken → factor? (drop at s) ≡ nothing
-part_broken s at x d e = go (factor? (drop at s)) refl (sym d ∙ e)
-  where
-    go : (o : Taken Factor) → factor? (drop at s) ≡ o → part_of (length s) o ≡ Broken → factor? (drop at s) ≡ nothing
-    go nothing p e = p
-    go (taken g t) p e = let z : ◌≡◌ {A = ℕ} 0 1 = cc in absurd (omega arith)
+pub factor_missing : (s : List ℕ) (at : ℕ) (x : Option (Factor × ℕ)) → x ≡ handed (length s) (factor? (drop at s)) → x ≡ None → factor? (drop at s) ≡ nothing
+factor_missing s at x d e = missing {r = factor?} factor_leaves s at x d e
 
 -- ---- n factors: those held so far, and those to come
 
@@ -87,14 +73,14 @@ filled_on s at n a p i f q h k z r =
       rest = sym (onto_cons l f (run? factor? (n - (i + 1)) (drop q s))) ∙ ap (onto l) (sym (ap (λ x. run? factor? x (drop p s)) e ∙ ap (λ o. then o (λ b s₁. then (run? factor? (n - (i + 1)) s₁) (λ m u. taken (b ∷ m) u))) r.reads)) ∙ z.rest;
     }
 
-pub filled_off : (s : List ℕ) (at n : ℕ) (a : List Factor) (p i : ℕ) → i < n → Filled s at n a p i → factor? (drop p s) ≡ nothing → broken_places ≡ places_of (length s) (run? factor? n (drop at s))
+pub filled_off : (s : List ℕ) (at n : ℕ) (a : List Factor) (p i : ℕ) → i < n → Filled s at n a p i → factor? (drop p s) ≡ nothing → None ≡ places_of (length s) (run? factor? n (drop at s))
 unfolding run? then onto
 filled_off s at n a p i h z r =
     let e : n - i ≡ suc (n - (i + 1)) = omega arith in
     let g : onto z.held (run? factor? (n - i) (drop p s)) ≡ nothing = rw (e, r) in
     ap (places_of (length s)) (sym g ∙ z.rest)
 
-pub filled_end : (s : List ℕ) (at n : ℕ) (a : List Factor) (p i : ℕ) → n ≤ i → Filled s at n a p i → record { at = a; next = p; whole = true } ≡ places_of (length s) (run? factor? n (drop at s))
+pub filled_end : (s : List ℕ) (at n : ℕ) (a : List Factor) (p i : ℕ) → n ≤ i → Filled s at n a p i → Some (a, p) ≡ places_of (length s) (run? factor? n (drop at s))
 unfolding run? then onto
 filled_end s at n a p i h z =
     let e : n - i ≡ 0 = omega (arith, z.within) in
@@ -113,30 +99,32 @@ run-count (suc n) s l t e = go (run-count n) (parted (factor? s) _ l t e)
     go : ((s : List ℕ) (l : List Factor) (t : List ℕ) → run? factor? n s ≡ taken l t → length l ≡ n) → Then (factor? s) (λ a s₁. then (run? factor? n s₁) (λ m v. taken (a ∷ m) v)) l t → length l ≡ suc n
     go i (first a u p q) = last a i u (parted (run? factor? n u) _ l t q)
 
-pub record PlacesRead (s : List ℕ) (l n : ℕ) (x : Places) : Type 0 where
+pub record PlacesRead (s : List ℕ) (l n : ℕ) (def : List Factor) (next : ℕ) : Type 0 where
   pub factors : List Factor
-  pub found : Read (run? factor? n) s l factors x.next
-  pub places : x.at ≡ pad_to no_factor 8 factors
+  pub read : Read (run? factor? n) s l factors next
+  pub places : def ≡ pad_to no_factor 8 factors
   pub count : length factors ≡ n
 
-pub places_read : (s : List ℕ) (l n : ℕ) (x : Places) → x ≡ places_of (length s) (run? factor? n (drop l s)) → x.whole ≡ true → PlacesRead s l n x
-places_read s l n x d e = go (run? factor? n (drop l s)) refl d
+pub places_read : (s : List ℕ) (l n : ℕ) (def : List Factor) (next : ℕ) → places_of (length s) (run? factor? n (drop l s)) ≡ Some (def, next) → PlacesRead s l n def next
+places_read s l n def next e = go (run? factor? n (drop l s)) refl e
   where
-    go : (o : Taken (List Factor)) → run? factor? n (drop l s) ≡ o → x ≡ places_of (length s) o → PlacesRead s l n x
-    go nothing p d = let z : true ≡ false = sym e ∙ ap (λ y. y.whole) d in let w : ◌≡◌ {A = ℕ} 0 1 = cc in absurd (omega arith)
-    go (taken fs t) p d = record {
-      factors = fs;
-      found = read_at {r = run? factor? n} (run_leaves {r = factor?} factor_leaves n) s l fs t x.next p (ap (λ y. y.next) d);
-      places = ap (λ y. y.at) d;
-      count = run-count n (drop l s) fs t p;
-    }
+    go : (o : Taken (List Factor)) → run? factor? n (drop l s) ≡ o → places_of (length s) o ≡ Some (def, next) → PlacesRead s l n def next
+    go nothing p e = let w : ◌≡◌ {A = ℕ} 0 1 = cc in absurd (omega arith)
+    go (taken fs t) p e =
+        let q : ◌≡◌ {A = List Factor × ℕ} (pad_to no_factor 8 fs, length s - length t) (def, next) = cc in
+        record {
+          factors = fs;
+          read = read_at {r = run? factor? n} (run_leaves {r = factor?} factor_leaves n) s l fs t next p (sym (ap (λ y. y.1) q));
+          places = sym (ap (λ y. y.0) q);
+          count = run-count n (drop l s) fs t p;
+        }
 
-pub places_broken : (s : List ℕ) (l n : ℕ) (x : Places) → x ≡ places_of (length s) (run? factor? n (drop l s)) → x.whole ≡ false → run? factor? n (drop l s) ≡ nothing
-places_broken s l n x d e = go (run? factor? n (drop l s)) refl d
+pub places_missing : (s : List ℕ) (l n : ℕ) → places_of (length s) (run? factor? n (drop l s)) ≡ None → run? factor? n (drop l s) ≡ nothing
+places_missing s l n e = go (run? factor? n (drop l s)) refl e
   where
-    go : (o : Taken (List Factor)) → run? factor? n (drop l s) ≡ o → x ≡ places_of (length s) o → run? factor? n (drop l s) ≡ nothing
-    go nothing p d = p
-    go (taken fs t) p d = let z : false ≡ true = sym e ∙ ap (λ y. y.whole) d in let w : ◌≡◌ {A = ℕ} 0 1 = cc in absurd (omega arith)
+    go : (o : Taken (List Factor)) → run? factor? n (drop l s) ≡ o → places_of (length s) o ≡ None → run? factor? n (drop l s) ≡ nothing
+    go nothing p e = p
+    go (taken fs t) p e = let w : ◌≡◌ {A = ℕ} 0 1 = cc in absurd (omega arith)
 
 -- ---- a derived row
 
@@ -152,37 +140,11 @@ eight_at s at h =
     let e : le 8 (drop at s) 0 ≡ le 8 s at = le-drop 8 at s 0 ∙ ap (le 8 s) (omega arith) in
     rw (le-leb 8 (length (drop at s)) n, e, drop-drop 8 at s)
 
-module _ (s : List ℕ) (at rank : ℕ) where
-  pub derived_1 : length s < at + 8 → broken_row ≡ row_read_of (length s) (derived? rank (drop at s))
-  unfolding derived? eight? then
-  derived_1 h = rw (lt-leb 8 (length (drop at s)) (omega (arith, length-drop at s)))
+pub eight_cut : (s : List ℕ) (at : ℕ) → length s < at + 8 → eight? (drop at s) ≡ nothing
+unfolding eight?
+eight_cut s at h = rw (lt-leb 8 (length (drop at s)) (omega (arith, length-drop at s)))
 
-  pub derived_2 : at + 8 ≤ length s → up_to? 8 (drop (at + 8) s) ≡ nothing → broken_row ≡ row_read_of (length s) (derived? rank (drop at s))
-  unfolding derived? then
-  derived_2 h e = rw (eight_at s at h, e)
-
-  pub derived_3 : (n l : ℕ) → at + 8 ≤ length s → Read (up_to? 8) s (at + 8) n l → run? factor? n (drop l s) ≡ nothing → broken_row ≡ row_read_of (length s) (derived? rank (drop at s))
-  unfolding derived? then
-  derived_3 n l h p e = rw (eight_at s at h, p.reads, e)
-
-  pub derived_4 : (n l : ℕ) (x : Float) (d : Places) → at + 8 ≤ length s → Read (up_to? 8) s (at + 8) n l → PlacesRead s l n d → x ≡ of_bits binary64 (le 8 s at)
-      → record { row = record { def = d.at; len = n; rank = rank; kind = Derived x }; next = d.next; whole = true } ≡ row_read_of (length s) (derived? rank (drop at s))
-  unfolding derived? then
-  derived_4 n l x d h p q e = rw (eight_at s at h, p.reads, q.found.reads, behind s d.next q.found.inside, e, q.places, q.count)
-
-  -- ---- a row
-  pub row_1 : up_to? 65535 (drop at s) ≡ nothing → broken_row ≡ row_read_of (length s) (row? (drop at s))
-  unfolding row? then
-  row_1 e = rw e
-
-  pub row_2 : (i : ℕ) → Read (up_to? 65535) s at rank i → up_to? 1 (drop i s) ≡ nothing → broken_row ≡ row_read_of (length s) (row? (drop at s))
-  unfolding row? then
-  row_2 i p e = rw (p.reads, e)
-
-  pub row_3 : (i k j : ℕ) (x : RowRead) → Read (up_to? 65535) s at rank i → Read (up_to? 1) s i k j → (k ≡ 0 → ⊥) → x ≡ row_read_of (length s) (derived? rank (drop j s)) → x ≡ row_read_of (length s) (row? (drop at s))
-  unfolding row? then
-  row_3 i k j x p q z e = rw (p.reads, q.reads, ne_eqb k 0 z) e
-
-  pub row_4 : (i k j : ℕ) (r : Row) → Read (up_to? 65535) s at rank i → Read (up_to? 1) s i k j → k ≡ 0 → r ≡ base_row rank → record { row = r; next = j; whole = true } ≡ row_read_of (length s) (row? (drop at s))
-  unfolding row? then
-  row_4 i k j r p q z e = rw (p.reads, q.reads, eq-eqb k 0 z, behind s j q.inside, e)
+pub derived_read : (s : List ℕ) (at rank n l : ℕ) (x : Float) (def : List Factor) (next : ℕ) → at + 8 ≤ length s → up_to? 8 (drop (at + 8) s) ≡ taken n (drop l s) → PlacesRead s l n def next → x ≡ of_bits binary64 (le 8 s at)
+    → Some (record { def = def; len = n; rank = rank; kind = Derived x }, next) ≡ handed (length s) (derived? rank (drop at s))
+unfolding derived? then
+derived_read s at rank n l x def next h p q e = rw (eight_at s at h, p, q.read.reads, behind s next q.read.inside, e, q.places, q.count)

@@ -1,3 +1,2 @@
-pub mod Factors
 pub mod Filled
 pub mod Walked

@@ -5,36 +5,30 @@ use mathlib.Core.List.{List, [], ◌∷◌, ◌++◌, append_assoc, append-nil}
 use Prim.Native.Nat.{ℕ, suc, ◌+◌, ◌-◌, ◌≤◌, ◌<◌}
 use native.Mathlib.Nat.{sub-zero}
 use native.Mathlib.Omega.{arith}
-use borrow.Author.Tests.{eqb-true, eqb-false, le-leb, lt-leb}
+use borrow.Author.Tests.{eqb-true, eqb-false, le-leb}
 use lib.Dec.{eqb}
 use lib.ListN.{length, set, drop, replicate, length-append, length-replicate, length-drop}
 use Rattle.units.specs.declared.Row.{Row}
 use Rattle.lent.specs.Lent.{no_row, over, lent_rows_lem}
-use Rattle.groups.specs.Taken.{Taken, nothing, taken, then}
+use Rattle.groups.specs.Taken.{nothing, then}
 use Rattle.files.specs.Records.{row?, front, table?}
-use Rattle.filereads.specs.Held.{row_read_of, front_of, broken_table, table_read_of}
-use Rattle.filereads.specs.declared.RowRead.{RowRead}
+use Rattle.groups.specs.Held.{handed}
+use Rattle.filereads.specs.Held.{front_of, rows_read_of}
+use Rattle.std.specs.declared.option.Option.{Option}
+use Rattle.std.specs.declared.option.Option.TheVariants.{None, Some}
 use Rattle.filereads.specs.declared.Front.{Front}
 use Rattle.groups.specs.Numbers.{up_to?}
-use Rattle.groups.proofs.Steps.{Read, read_at, behind}
+use Rattle.groups.proofs.Steps.{Read, behind, found, missing}
 use Rattle.files.proofs.Tables.{row_leaves}
 use Rattle.files.proofs.Fronts.{front-all, front-some, front_shorter, no_bytes, some_bytes}
 
 -- ---- a row found
 
-pub row_whole : (s : List ℕ) (at : ℕ) (x : RowRead) → x ≡ row_read_of (length s) (row? (drop at s)) → x.whole ≡ true → Read row? s at x.row x.next
-row_whole s at x d e = go (row? (drop at s)) refl d
-  where
-    go : (o : Taken Row) → row? (drop at s) ≡ o → x ≡ row_read_of (length s) o → Read row? s at x.row x.next
-    go nothing p d = let z : true ≡ false = sym e ∙ ap (λ y. y.whole) d in let w : ◌≡◌ {A = ℕ} 0 1 = cc in absurd (omega arith)
-    go (taken r t) p d = read_at {r = row?} row_leaves s at x.row t x.next (p ∙ ap (λ y. taken y t) (sym (ap (λ y. y.row) d))) (ap (λ y. y.next) d)
+pub row_found : (s : List ℕ) (at i : ℕ) (r : Row) (x : Option (Row × ℕ)) → x ≡ handed (length s) (row? (drop at s)) → x ≡ Some (r, i) → Read row? s at r i
+row_found s at i r x d e = found {r = row?} row_leaves s at x d r i e
 
-pub row_broken : (s : List ℕ) (at : ℕ) (x : RowRead) → x ≡ row_read_of (length s) (row? (drop at s)) → x.whole ≡ false → row? (drop at s) ≡ nothing
-row_broken s at x d e = go (row? (drop at s)) refl d
-  where
-    go : (o : Taken Row) → row? (drop at s) ≡ o → x ≡ row_read_of (length s) o → row? (drop at s) ≡ nothing
-    go nothing p d = p
-    go (taken r t) p d = let z : false ≡ true = sym e ∙ ap (λ y. y.whole) d in let w : ◌≡◌ {A = ℕ} 0 1 = cc in absurd (omega arith)
+pub row_missing : (s : List ℕ) (at : ℕ) (x : Option (Row × ℕ)) → x ≡ handed (length s) (row? (drop at s)) → x ≡ None → row? (drop at s) ≡ nothing
+row_missing s at x d e = missing {r = row?} row_leaves s at x d e
 
 -- ---- one row more over the places
 
@@ -115,21 +109,16 @@ module _ (s : List ℕ) (at n : ℕ) (a : List Row) (p i : ℕ) (z : Kept s at n
       let k : n - i ≡ suc (n - (i + 1)) = omega arith in
       told (sym z.rest ∙ held_of (front (n - i) (drop p s)) (ap (λ m. front m (drop p s)) k ∙ front_off (n - (i + 1)) e))
 
-  pub kept_end : n ≤ i → record { rows = record { at = a; len = i }; next = p } ≡ front_of (length s) (front n (drop at s))
+  pub kept_end : n ≤ i → record { rows = record { at = a; len = n }; next = p } ≡ front_of (length s) (front n (drop at s))
   kept_end h =
       let k : n - i ≡ 0 = omega (arith, z.within) in
-      told (sym z.rest ∙ held_of (front (n - i) (drop p s)) (ap (λ m. front m (drop p s)) k ∙ front_end))
+      let e : n ≡ i = omega (arith, z.within) in
+      ap (λ m. record { rows = record { at = a; len = m }; next = p }) e ∙ told (sym z.rest ∙ held_of (front (n - i) (drop p s)) (ap (λ m. front m (drop p s)) k ∙ front_end))
+
+-- ---- the whole file
 
 module _ (places : ℕ) (s : List ℕ) where
-  pub table_1 : up_to? 4294967295 s ≡ nothing → broken_table ≡ table_read_of (table? places s)
-  unfolding table? then
-  table_1 e = rw e
-
   module _ (n at : ℕ) (p : Read (up_to? 4294967295) s 0 n at) where
-    pub table_full : places < n → broken_table ≡ table_read_of (table? places s)
-    unfolding table? then
-    table_full h = rw (p.reads, lt-leb n places h)
-
     module _ (k : n ≤ places) (f : Front) (g : f ≡ front_of (length s) (front n (drop at s))) where
       rest_none : f.next ≡ length s → length (front n (drop at s)).1 ≡ 0
       rest_none e = omega (arith, ap (λ x. x.next) g, front_shorter n (drop at s), length-drop at s)
@@ -137,32 +126,32 @@ module _ (places : ℕ) (s : List ℕ) where
       rest_some : (f.next ≡ length s → ⊥) → length (front n (drop at s)).1 ≡ 0 → ⊥
       rest_some e z = e (ap (λ x. x.next) g ∙ omega (arith, front_shorter n (drop at s), length-drop at s))
 
-      pub table_2 : (f.rows.len ≡ n → ⊥) → broken_table ≡ table_read_of (table? places s)
+      table_2 : (f.rows.len ≡ n → ⊥) → None ≡ rows_read_of (table? places s)
       unfolding table? then lent_rows_lem
       table_2 h = rw (p.reads, le-leb n places k, front-some n (drop at s) (λ e. h (ap (λ x. x.rows.len) g ∙ e)))
 
-      pub table_3 : f.rows.len ≡ n → (f.next ≡ length s → ⊥) → broken_table ≡ table_read_of (table? places s)
+      table_3 : f.rows.len ≡ n → (f.next ≡ length s → ⊥) → None ≡ rows_read_of (table? places s)
       unfolding table? then lent_rows_lem
       table_3 h z = rw (p.reads, le-leb n places k, front-all n (drop at s) (sym (ap (λ x. x.rows.len) g) ∙ h), some_bytes (front n (drop at s)).1 (rest_some z))
 
-      pub table_4 : f.rows.len ≡ n → f.next ≡ length s → record { rows = f.rows; whole = true } ≡ table_read_of (table? places s)
+      table_4 : f.rows.len ≡ n → f.next ≡ length s → Some f.rows ≡ rows_read_of (table? places s)
       unfolding table? then lent_rows_lem
       table_4 h z =
-          rw (p.reads, le-leb n places k, front-all n (drop at s) (sym (ap (λ x. x.rows.len) g) ∙ h), no_bytes (front n (drop at s)).1 (rest_none z)) (ap (λ x. record { rows = x; whole = true }) (ap (λ x. x.rows) g))
+          rw (p.reads, le-leb n places k, front-all n (drop at s) (sym (ap (λ x. x.rows.len) g) ∙ h), no_bytes (front n (drop at s)).1 (rest_none z)) (ap (λ x. Some x) (ap (λ x. x.rows) g))
 
       -- by the test that the code makes
-      pub table_broken : (not (eqb f.rows.len n) || not (eqb f.next (length s))) ≡ true → broken_table ≡ table_read_of (table? places s)
+      pub table_broken : (not (eqb f.rows.len n) || not (eqb f.next (length s))) ≡ true → None ≡ rows_read_of (table? places s)
       table_broken e = go (eqb f.rows.len n) (eqb f.next (length s)) refl refl e
         where
-          go : (x y : Bool) → eqb f.rows.len n ≡ x → eqb f.next (length s) ≡ y → (not x || not y) ≡ true → broken_table ≡ table_read_of (table? places s)
+          go : (x y : Bool) → eqb f.rows.len n ≡ x → eqb f.next (length s) ≡ y → (not x || not y) ≡ true → None ≡ rows_read_of (table? places s)
           go false y a b e = table_2 (eqb-false f.rows.len n a)
           go true false a b e = table_3 (eqb-true f.rows.len n a) (eqb-false f.next (length s) b)
           go true true a b e = let w : ◌≡◌ {A = ℕ} 0 1 = cc in absurd (omega arith)
 
-      pub table-whole : (not (eqb f.rows.len n) || not (eqb f.next (length s))) ≡ false → record { rows = f.rows; whole = true } ≡ table_read_of (table? places s)
+      pub table-whole : (not (eqb f.rows.len n) || not (eqb f.next (length s))) ≡ false → Some f.rows ≡ rows_read_of (table? places s)
       table-whole e = go (eqb f.rows.len n) (eqb f.next (length s)) refl refl e
         where
-          go : (x y : Bool) → eqb f.rows.len n ≡ x → eqb f.next (length s) ≡ y → (not x || not y) ≡ false → record { rows = f.rows; whole = true } ≡ table_read_of (table? places s)
+          go : (x y : Bool) → eqb f.rows.len n ≡ x → eqb f.next (length s) ≡ y → (not x || not y) ≡ false → Some f.rows ≡ rows_read_of (table? places s)
           go false y a b e = let w : ◌≡◌ {A = ℕ} 0 1 = cc in absurd (omega arith)
           go true false a b e = let w : ◌≡◌ {A = ℕ} 0 1 = cc in absurd (omega arith)
           go true true a b e = table_4 (eqb-true f.rows.len n a) (eqb-true f.next (length s) b)

@@ -1,5 +1,5 @@
 -- Parts of no fixed size written one behind the other: where the next begins, and what stands at the end.
-use mathlib.Core.Path.{◌≡◌, refl, sym, ap, subst, ◌∙◌}
+use mathlib.Core.Path.{◌≡◌, refl, sym, ap, ◌∙◌}
 use mathlib.Core.List.{List, [], ◌++◌}
 use Prim.Native.Nat.{ℕ, ◌+◌, ◌≤◌, ◌<◌}
 use native.Mathlib.Nat.{add_assoc}
@@ -8,7 +8,7 @@ use native.Mathlib.Omega.{arith}
 use lib.ListN.{length, get_or, drop, length-append, drop_of_length-le}
 use lib.Ieee.{Float, binary64, to_bits}
 use lib.IntN.{ℤ}
-use lib.Seq.{sets, drop-cons, get_or-take, length-take-le}
+use lib.Seq.{sets, drop-cons, length-take-le}
 use Rattle.units.specs.declared.Factor.{Factor}
 use Rattle.units.specs.declared.Kind.{Kind}
 use Rattle.units.specs.declared.Kind.TheVariants.{Base, Derived}
@@ -24,9 +24,9 @@ use Rattle.groups.specs.Numbers.{number_bytes, folded}
 use Rattle.files.specs.Records.{factor_file, kind_file, row_file, table_file}
 use Rattle.filewrites.specs.Held.{five}
 
-pub five-length : (a b c d e : ℕ) → length (five a b c d e) ≡ length (number_bytes a) + (length (number_bytes b) + (length (number_bytes c) + (length (number_bytes d) + length (number_bytes e))))
+pub five_length : (a b c d e : ℕ) → length (five a b c d e) ≡ length (number_bytes a) + (length (number_bytes b) + (length (number_bytes c) + (length (number_bytes d) + length (number_bytes e))))
 unfolding five
-five-length a b c d e = simp length-append
+five_length a b c d e = simp length-append
 
 pub five_written : (l l₁ l₂ l₃ l₄ l₅ : List ℕ) (i i₁ i₂ i₃ i₄ a b c d e : ℕ)
     → l₁ ≡ sets l i (number_bytes a) → i₁ ≡ i + length (number_bytes a) → l₂ ≡ sets l₁ i₁ (number_bytes b) → i₂ ≡ i₁ + length (number_bytes b)
@@ -63,9 +63,6 @@ module _ {A : Type 0} (bytes : A → List ℕ) (l : List A) where
     pub place : p + length (run_bytes bytes (drop i l)) ≡ at + length (run_bytes bytes l)
     pub stored : sets out p (run_bytes bytes (drop i l)) ≡ sets out₀ at (run_bytes bytes l)
 
-  pub storing_none : (out : List ℕ) (at : ℕ) → Storing out at out at 0
-  storing_none out at = record { long = refl; place = refl; stored = refl }
-
   pub storing_room : (d : A) (out₀ : List ℕ) (at : ℕ) (out : List ℕ) (p i : ℕ) → i < length l → Storing out₀ at out p i → at + length (run_bytes bytes l) ≤ length out₀ → p + length (bytes (get_or l i d)) ≤ length out
   storing_room d out₀ at out p i h z r = omega (arith, z.long, z.place, ap length (run_cons bytes l d i h), length-append (bytes (get_or l i d)) (run_bytes bytes (drop (i + 1) l)))
 
@@ -82,15 +79,9 @@ module _ {A : Type 0} (bytes : A → List ℕ) (l : List A) where
 
 -- ---- from the parts that code works out
 
-pub five-factor : (f : Factor) (k n m : ℕ) (x y : ℤ) → k ≡ prefix_kind f.prefix → x ≡ prefix_number f.prefix → n ≡ folded x → y ≡ f.exponent.num → m ≡ folded y
+pub five_factor : (f : Factor) (k n m : ℕ) (x y : ℤ) → k ≡ prefix_kind f.prefix → x ≡ prefix_number f.prefix → n ≡ folded x → y ≡ f.exponent.num → m ≡ folded y
     → five f.row k n m f.exponent.den ≡ factor_file f
-five-factor f k n m x y a b c d e = rw (a, c, b, e, d) (sym (factor-five f))
-
-pub def_long : (r : Row) → length r.def ≡ 8 → r.len ≤ 8 → length (def_of r) ≡ r.len
-def_long r e h = length-take-le r.len r.def (omega arith)
-
-pub def_at : (r : Row) (i : ℕ) (d : Factor) → i < r.len → get_or r.def i d ≡ get_or (def_of r) i d
-def_at r i d h = sym (get_or-take r.len r.def i d h)
+five_factor f k n m x y a b c d e = rw (a, c, b, e, d) (sym (factor-five f))
 
 -- ---- a row
 
@@ -98,9 +89,9 @@ pub kind_length : (x : Float) (r : Row) → length (kind_file (Derived x) r) ≡
 unfolding kind_file
 kind_length x r = simp (length-append, length-bytes_of)
 
-pub row_length : (r : Row) (k : Kind) → r.kind ≡ k → length (row_file r) ≡ length (number_bytes r.rank) + length (kind_file k r)
+pub row_length : (r : Row) → length (row_file r) ≡ length (number_bytes r.rank) + length (kind_file r.kind r)
 unfolding row_file
-row_length r k e = length-append (number_bytes r.rank) (kind_file r.kind r) ∙ ap (λ x. length (number_bytes r.rank) + length (kind_file x r)) e
+row_length r = length-append (number_bytes r.rank) (kind_file r.kind r)
 
 pub row_written : (l l₁ l₂ : List ℕ) (i i₁ : ℕ) (r : Row) (k : Kind) → r.kind ≡ k → l₁ ≡ sets l i (number_bytes r.rank) → i₁ ≡ i + length (number_bytes r.rank) → l₂ ≡ sets l₁ i₁ (kind_file k r) → l₂ ≡ sets l i (row_file r)
 unfolding row_file
@@ -116,24 +107,17 @@ unfolding kind_file
 derived_written l l₁ l₂ l₃ l₄ i i₁ i₂ b' x r a b c g d e f =
     rw (f, d, c, g, a, e, b) (simp (← sets_append, length-bytes_of, add_assoc))
 
-pub derived_length : (r : Row) (x : Float) → r.kind ≡ Derived x
-    → length (row_file r) ≡ length (number_bytes r.rank) + (length (number_bytes 1) + (8 + (length (number_bytes r.len) + length (run_bytes factor_file (def_of r)))))
-derived_length r x e = row_length r (Derived x) e ∙ ap (λ n. length (number_bytes r.rank) + n) (kind_length x r)
-
 -- ---- a table
 
 pub rows_long : (t : Rows) → length t.at ≡ 128 → t.len ≤ 128 → length (rows_of t) ≡ t.len
 rows_long t e h = length-take-le t.len t.at (omega arith)
 
-pub rows_at : (t : Rows) (i : ℕ) (d : Row) → i < t.len → get_or t.at i d ≡ get_or (rows_of t) i d
-rows_at t i d h = sym (get_or-take t.len t.at i d h)
+pub row_short : (t : Rows) (i : ℕ) (d : Row) → i < length (rows_of t) → All (λ r. r.len ≤ 8) (rows_of t) → (get_or (rows_of t) i d).len ≤ 8
+row_short t i d h a = all_at (λ r. r.len ≤ 8) (rows_of t) i d h a
 
-pub row_short : (t : Rows) (i : ℕ) (d : Row) → i < t.len → length (rows_of t) ≡ t.len → All (λ r. r.len ≤ 8) (rows_of t) → (get_or t.at i d).len ≤ 8
-row_short t i d h e a = subst (λ r. r.len ≤ 8) (sym (rows_at t i d h)) (all_at (λ r. r.len ≤ 8) (rows_of t) i d (omega arith) a)
-
-pub table-length : (t : Rows) → length (rows_of t) ≡ t.len → length (table_file (rows_of t)) ≡ length (number_bytes t.len) + length (run_bytes row_file (rows_of t))
+pub table_length : (t : Rows) → length (rows_of t) ≡ t.len → length (table_file (rows_of t)) ≡ length (number_bytes t.len) + length (run_bytes row_file (rows_of t))
 unfolding table_file
-table-length t e = length-append (number_bytes (length (rows_of t))) (run_bytes row_file (rows_of t)) ∙ ap (λ n. length (number_bytes n) + length (run_bytes row_file (rows_of t))) e
+table_length t e = length-append (number_bytes (length (rows_of t))) (run_bytes row_file (rows_of t)) ∙ ap (λ n. length (number_bytes n) + length (run_bytes row_file (rows_of t))) e
 
 pub table_written : (t : Rows) (l l₁ l₂ : List ℕ) (p : ℕ) → length (rows_of t) ≡ t.len → l₁ ≡ sets l 0 (number_bytes t.len) → p ≡ 0 + length (number_bytes t.len) → l₂ ≡ sets l₁ p (run_bytes row_file (rows_of t))
     → l₂ ≡ sets l 0 (table_file (rows_of t))

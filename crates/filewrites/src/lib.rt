@@ -13,12 +13,14 @@ ghost use Rattle.units.specs.declared.Kind.TheVariants.{Derived};
 use groups::{fold, number_len, write_number};
 use units::{Factor, Kind, Row, Rows};
 
+#[tactic(auto, using(crate::proofs::Written::five_length))]
 fn five_len(a: u32, b: u32, c: u32, d: u32, e: u32) -> usize
     ensures { (result ≡ length (five a b c d e)) × (result ≤ 25) }
 {
     number_len(a) + number_len(b) + number_len(c) + number_len(d) + number_len(e)
 }
 
+#[tactic(auto, using(crate::proofs::Written::five_length, crate::proofs::Written::five_written))]
 fn write_five(out: &mut [u8], at: usize, a: u32, b: u32, c: u32, d: u32, e: u32) -> usize
     requires { at + length (five a b c d e) ≤ length out.old }
     ensures { (out.new ≡ sets out.old at (five a b c d e)) × (length out.new ≡ length out.old) × (result ≡ at + length (five a b c d e)) }
@@ -31,6 +33,7 @@ fn write_five(out: &mut [u8], at: usize, a: u32, b: u32, c: u32, d: u32, e: u32)
 }
 
 // How many bytes a factor takes.
+#[tactic(auto, using(crate::proofs::Written::five_factor))]
 pub fn factor_len(f: Factor) -> usize
     ensures { (result ≡ length (factor_file f)) × (result ≤ 25) }
 {
@@ -43,6 +46,7 @@ pub fn factor_len(f: Factor) -> usize
 }
 
 // A factor from a place on, and the place behind it.
+#[tactic(auto, using(crate::proofs::Written::five_factor))]
 pub fn write_factor(out: &mut [u8], at: usize, f: Factor) -> usize
     requires { at + length (factor_file f) ≤ length out.old }
     ensures { (out.new ≡ sets out.old at (factor_file f)) × (length out.new ≡ length out.old) × (result ≡ at + length (factor_file f)) }
@@ -60,13 +64,9 @@ fn places_len(r: Row) -> usize
     requires { r.len ≤ 8 }
     ensures { (result ≡ length (run_bytes factor_file (def_of r))) × (result ≤ 200) }
 {
-    let len = r.len;
-    let mut n: usize = 0;
-    let mut i: usize = 0;
-    while i < len {
-        let f = r.def[i];
-        n = n + factor_len(f);
-        i += 1;
+    let mut n = 0;
+    for f in &r.def[..r.len] {
+        n += factor_len(*f);
     }
     n
 }
@@ -75,18 +75,15 @@ fn write_places(out: &mut [u8], at: usize, r: Row) -> usize
     requires { (r.len ≤ 8) × (at + length (run_bytes factor_file (def_of r)) ≤ length out.old) }
     ensures { (out.new ≡ sets out.old at (run_bytes factor_file (def_of r))) × (length out.new ≡ length out.old) × (result ≡ at + length (run_bytes factor_file (def_of r))) }
 {
-    let len = r.len;
     let mut p = at;
-    let mut i: usize = 0;
-    while i < len {
-        let f = r.def[i];
-        p = write_factor(out, p, f);
-        i += 1;
+    for f in &r.def[..r.len] {
+        p = write_factor(out, p, *f);
     }
     p
 }
 
 // How many bytes a row takes.
+#[tactic(auto, using(crate::proofs::Written::row_length, crate::proofs::Written::base_bytes, crate::proofs::Written::kind_length))]
 pub fn row_len(r: Row) -> usize
     requires { r.len ≤ 8 }
     ensures { (result ≡ length (row_file r)) × (result ≤ 223) }
@@ -100,6 +97,7 @@ pub fn row_len(r: Row) -> usize
 }
 
 // What follows the rank of a derived row.
+#[tactic(auto, using(crate::proofs::Written::kind_length))]
 fn write_derived(out: &mut [u8], at: usize, x: f64, r: Row) -> usize
     requires { (r.len ≤ 8) × (at + length (kind_file (Derived x) r) ≤ length out.old) }
     ensures { (out.new ≡ sets out.old at (kind_file (Derived x) r)) × (length out.new ≡ length out.old) × (result ≡ at + length (kind_file (Derived x) r)) }
@@ -111,6 +109,7 @@ fn write_derived(out: &mut [u8], at: usize, x: f64, r: Row) -> usize
 }
 
 // A row from a place on, and the place behind it.
+#[tactic(auto, using(crate::proofs::Written::row_length, crate::proofs::Written::base_bytes, crate::proofs::Written::row_written))]
 pub fn write_row(out: &mut [u8], at: usize, r: Row) -> usize
     requires { (r.len ≤ 8) × (at + length (row_file r) ≤ length out.old) }
     ensures { (out.new ≡ sets out.old at (row_file r)) × (length out.new ≡ length out.old) × (result ≡ at + length (row_file r)) }
@@ -128,13 +127,9 @@ pub fn table_len(t: Rows) -> usize
     requires { (t.len ≤ 128) × All (λ r. r.len ≤ 8) (rows_of t) }
     ensures { result ≡ length (table_file (rows_of t)) }
 {
-    let len = t.len;
-    let mut n = number_len(len as u32);
-    let mut i: usize = 0;
-    while i < len {
-        let r = t.at[i];
-        n = n + row_len(r);
-        i += 1;
+    let mut n = number_len(t.len as u32);
+    for r in &t.at[..t.len] {
+        n += row_len(*r);
     }
     n
 }
@@ -144,13 +139,9 @@ pub fn write_table(out: &mut [u8], t: Rows) -> usize
     requires { (t.len ≤ 128) × All (λ r. r.len ≤ 8) (rows_of t) × (length (table_file (rows_of t)) ≤ length out.old) }
     ensures { (out.new ≡ sets out.old 0 (table_file (rows_of t))) × (length out.new ≡ length out.old) × (result ≡ length (table_file (rows_of t))) }
 {
-    let len = t.len;
-    let mut p = write_number(out, 0, len as u32);
-    let mut i: usize = 0;
-    while i < len {
-        let r = t.at[i];
-        p = write_row(out, p, r);
-        i += 1;
+    let mut p = write_number(out, 0, t.len as u32);
+    for r in &t.at[..t.len] {
+        p = write_row(out, p, *r);
     }
     p
 }

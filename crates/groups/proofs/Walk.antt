@@ -6,36 +6,23 @@ use Prim.Native.Nat.{ℕ, zero, suc, ◌+◌, ◌-◌, ◌*◌, ◌/◌, ◌%◌
 use native.Mathlib.Nat.{pow-suc, add_assoc, mul-le-mul_right, add-mul, mul_assoc, mul_comm}
 use native.Mathlib.Numerals.{add-one}
 use native.Mathlib.Omega.{arith}
-use borrow.Author.Tests.{ltb-true, ltb-false, eqb-false, lt-ltb, le-ltb, le-leb, lt-leb, eq-eqb, ne_eqb}
-use lib.Bits.{bit_and, bit_or, and_mask, or_shifted, or_shifted_r}
+use borrow.Author.Tests.{ltb-true, ltb-false, eqb-false, lt-ltb, le-ltb, le-leb, lt-leb, ne_eqb}
+use lib.Bits.{bit_and, bit_or, and_mask, or_shifted_r}
 use lib.Dec.{ltb, eqb}
-use lib.IntN.{ℤ, pos, negsuc, ◌-ℤ◌}
-use lib.Signed.{mag, lt_z}
 use lib.ListN.{length, get_or, set, drop, drop_of_length-le, length-drop}
 use lib.Pow.{pow-add, shl_exact}
 use lib.Seq.{sets}
-use mir.Syntax.{w32}
-use mir.Val.{to_z, SFits}
-use mir.Facts.{to_z_pos}
 use Rattle.exponents.specs.Words.{pick}
 use Rattle.exponents.proofs.Places.{rest}
 use Rattle.groups.specs.Taken.{Taken, nothing, taken, then}
-use Rattle.groups.specs.Numbers.{groups, above, groups?, up_to?, folded, unfolded}
-use Rattle.groups.specs.Held.{number_of}
-use Rattle.groups.proofs.Groups.{unfolded-fits}
-use Rattle.groups.specs.declared.Number.TheVariants.{Found, Missing}
+use Rattle.groups.specs.Numbers.{groups, above, groups?, up_to?}
+use Rattle.groups.specs.Held.{handed}
+use Rattle.std.specs.declared.option.Option.TheVariants.{None, Some}
 
 -- ---- masks and shifts
 
 pub low_group : (b : ℕ) → bit_and b 127 ≡ b % 128
 low_group b = and_mask b 7
-
-pub high_bit : (b : ℕ) → (b / 128 ≡ 0 → ⊥) → 128 ≤ b
-high_bit b z = go (ltb b 128) refl
-  where
-    go : (p : Bool) → ltb b 128 ≡ p → 128 ≤ b
-    go true e = absurd (z (omega (arith, ltb-true b 128 e)))
-    go false e = ltb-false b 128 e
 
 -- seven bits put above those of v
 pub group_joined : (k v b : ℕ) → k < 5 → v < 2 ^ (7 * k) → bit_or v (bit_and b 127 * 2 ^ (7 * k) % 2 ^ 64) ≡ b % 128 * 2 ^ (7 * k) + v
@@ -134,16 +121,16 @@ read_none zero v = refl
 read_none (suc k) v = refl
 
 -- the rest of the walk reads nothing
-pub ended : (k v w most : ℕ) (s u : List ℕ) (n : ℕ) → joined k v (groups? w u) ≡ groups? 5 s → joined k v (groups? w u) ≡ nothing → number_of n (up_to? most s) ≡ Missing
+pub ended : (k v w most : ℕ) (s u : List ℕ) (n : ℕ) → joined k v (groups? w u) ≡ groups? 5 s → joined k v (groups? w u) ≡ nothing → handed n (up_to? most s) ≡ None
 unfolding up_to? then
 ended k v w most s u n e f = rw (sym e ∙ f)
 
 -- or a number
-pub too_high : (k v w most x : ℕ) (s u t : List ℕ) (n : ℕ) → joined k v (groups? w u) ≡ groups? 5 s → joined k v (groups? w u) ≡ taken x t → most < x → number_of n (up_to? most s) ≡ Missing
+pub too_high : (k v w most x : ℕ) (s u t : List ℕ) (n : ℕ) → joined k v (groups? w u) ≡ groups? 5 s → joined k v (groups? w u) ≡ taken x t → most < x → handed n (up_to? most s) ≡ None
 unfolding up_to? then
 too_high k v w most x s u t n e f h = rw (sym e ∙ f, lt-leb x most h)
 
-pub found : (k v w most x : ℕ) (s u t : List ℕ) (n : ℕ) → joined k v (groups? w u) ≡ groups? 5 s → joined k v (groups? w u) ≡ taken x t → x ≤ most → number_of n (up_to? most s) ≡ Found x (n - length t)
+pub found : (k v w most x : ℕ) (s u t : List ℕ) (n : ℕ) → joined k v (groups? w u) ≡ groups? 5 s → joined k v (groups? w u) ≡ taken x t → x ≤ most → handed n (up_to? most s) ≡ Some (x, n - length t)
 unfolding up_to? then
 found k v w most x s u t n e f h = rw (sym e ∙ f, le-leb x most h)
 
@@ -174,30 +161,29 @@ module _ (s : List ℕ) (at k v i b most : ℕ) (h : k < 5) (l : i < length s) (
   up : b % 128 * 2 ^ (7 * k) + v ≡ joined_up
   up = sym (group_joined k v b h m)
 
-  last_up : b / 128 ≡ 0 → b * 2 ^ (7 * k) + v ≡ joined_up
+  last_up : b < 128 → b * 2 ^ (7 * k) + v ≡ joined_up
   last_up z =
       let e : b % 128 ≡ b = omega arith in
       ap (λ x. x * 2 ^ (7 * k) + v) (sym e) ∙ up
 
-  pub number_padded : b / 128 ≡ 0 → (eqb b 0 && not (eqb k 0)) ≡ true → Missing ≡ number_of (length s) (up_to? most (drop at s))
+  pub number_padded : b < 128 → (eqb b 0 && not (eqb k 0)) ≡ true → None ≡ handed (length s) (up_to? most (drop at s))
   number_padded z p = sym (ended k v (suc (4 - k)) most (drop at s) (b ∷ drop (i + 1) s) (length s) here (read_padded k v (4 - k) b (drop (i + 1) s) (omega arith) p))
 
-  pub number_high : b / 128 ≡ 0 → (eqb b 0 && not (eqb k 0)) ≡ false → most < joined_up → Missing ≡ number_of (length s) (up_to? most (drop at s))
+  pub number_high : b < 128 → (eqb b 0 && not (eqb k 0)) ≡ false → most < joined_up → None ≡ handed (length s) (up_to? most (drop at s))
   number_high z p g =
       sym (too_high k v (suc (4 - k)) most joined_up (drop at s) (b ∷ drop (i + 1) s) (drop (i + 1) s) (length s) here
       (read_last k v (4 - k) b (drop (i + 1) s) m (omega arith) p ∙ ap (λ x. taken x (drop (i + 1) s)) (last_up z)) g)
 
-  pub number_found : b / 128 ≡ 0 → (eqb b 0 && not (eqb k 0)) ≡ false → joined_up ≤ most → Found joined_up (i + 1) ≡ number_of (length s) (up_to? most (drop at s))
+  pub number_found : b < 128 → (eqb b 0 && not (eqb k 0)) ≡ false → joined_up ≤ most → Some (joined_up, i + 1) ≡ handed (length s) (up_to? most (drop at s))
   number_found z p g =
       let n : length s - length (drop (i + 1) s) ≡ i + 1 = omega (arith, length-drop (i + 1) s) in
       sym (found k v (suc (4 - k)) most joined_up (drop at s) (b ∷ drop (i + 1) s) (drop (i + 1) s) (length s) here
-      (read_last k v (4 - k) b (drop (i + 1) s) m (omega arith) p ∙ ap (λ x. taken x (drop (i + 1) s)) (last_up z)) g ∙ ap (Found joined_up) n)
+      (read_last k v (4 - k) b (drop (i + 1) s) m (omega arith) p ∙ ap (λ x. taken x (drop (i + 1) s)) (last_up z)) g ∙ ap (λ y. Some (joined_up, y)) n)
 
-  pub number_again : (b / 128 ≡ 0 → ⊥) → (joined_up < 2 ^ (7 * (k + 1))) × (joined (k + 1) joined_up (groups? (5 - (k + 1)) (drop (i + 1) s)) ≡ groups? 5 (drop at s))
+  pub number_again : 128 ≤ b → (joined_up < 2 ^ (7 * (k + 1))) × (joined (k + 1) joined_up (groups? (5 - (k + 1)) (drop (i + 1) s)) ≡ groups? 5 (drop at s))
   number_again z =
       let a : 5 - (k + 1) ≡ 4 - k = omega arith in
-      let c = high_bit b z in
-      (rw (← up) (group_bound k v b m), rw (a, add-one k, ← up) (sym (read_turn k v (4 - k) b (drop (i + 1) s) m c) ∙ here))
+      (rw (← up) (group_bound k v b m), rw (a, add-one k, ← up) (sym (read_turn k v (4 - k) b (drop (i + 1) s) m z) ∙ here))
 
 -- ---- written: k groups before these
 
@@ -232,40 +218,3 @@ stored_turn out at i y p h q l =
     let t = group_turn (i - at) y h q l in
     let a : i + 1 - at ≡ i - at + 1 = omega arith in
     rw (t.2, high_set y, a, add-one i)
-
--- a number below zero doubled, one bit more
-pub doubled : (n : ℕ) → n < 2147483648 → n * 2 % 4294967296 ≡ 2 * n
-doubled n h = omega arith
-
-pub doubled_one : (n : ℕ) → n < 2147483648 → bit_or (n * 2 % 4294967296) 1 ≡ 2 * n + 1
-doubled_one n h =
-    let a : n * 2 % 4294967296 ≡ n * 2 ^ 1 = omega arith in
-    rw a (or_shifted n 1 1 (omega arith) ∙ omega arith)
-
-pub low_bit : (x : ℕ) → bit_and x 1 ≡ x % 2
-low_bit x = and_mask x 1
-
--- ---- folded and unfolded in code
-
-pub folded-below : (z : ℤ) → lt_z z (pos 0) ≡ true → 2 * mag z + 1 ≡ folded z
-folded-below (pos n) t = absurd (omega (arith, ltb-true n 0 t))
-folded-below (negsuc n) t = refl
-
-minus_one : (m : ℕ) → negsuc 0 -ℤ pos m ≡ negsuc m
-minus_one zero = refl
-minus_one (suc m) = ap negsuc (omega arith)
-
-pub unfolded_even : (x : ℕ) → x < 4294967296 → bit_and x 1 ≡ 0 → to_z w32 (x / 2) ≡ unfolded x
-unfolding unfolded
-unfolded_even x h e =
-    let a : eqb (x % 2) 0 ≡ true = eq-eqb (x % 2) 0 (sym (low_bit x) ∙ e) in
-    rw a (to_z_pos w32 (omega arith))
-
-pub unfolded_odd : (x : ℕ) → x < 4294967296 → (bit_and x 1 ≡ 0 → ⊥) → negsuc 0 -ℤ to_z w32 (x / 2) ≡ unfolded x
-unfolding unfolded
-unfolded_odd x h e =
-    let a : eqb (x % 2) 0 ≡ false = ne_eqb (x % 2) 0 (λ (z : x % 2 ≡ 0). e (low_bit x ∙ z)) in
-    rw (a, to_z_pos w32 {n = x / 2} (omega arith)) (minus_one (x / 2))
-
-pub unfolded_sfits : (x : ℕ) → x < 4294967296 → SFits w32 (unfolded x)
-unfolded_sfits x h = record { sfits = unfolded-fits x (omega arith) }

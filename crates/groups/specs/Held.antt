@@ -1,9 +1,7 @@
--- How code hands a number over: with the place behind it, in n bytes.
-use Rattle.std.specs.Prelude.{ℕ, ◌-◌, length}
+-- How code hands over what it has read: with the place behind it, in n bytes.
+use Rattle.std.specs.Prelude.{ℕ, ◌-◌, length, Option, Some, None}
 use Rattle.groups.specs.Taken.{Taken, nothing, taken}
-use Rattle.groups.specs.declared.Number.{Number}
-use Rattle.groups.specs.declared.Number.TheVariants.{Found, Missing}
 
-abbrev pub number_of : ℕ → Taken ℕ → Number
-number_of n nothing = Missing
-number_of n (taken v s) = Found v (n - length s)
+abbrev pub handed : {A : Type 0} → ℕ → Taken A → Option (A × ℕ)
+handed n nothing = None
+handed n (taken a s) = Some (a, n - length s)

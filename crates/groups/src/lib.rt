@@ -2,81 +2,70 @@
 // Signed numbers are folded: 0, -1, 1, -2 are 0, 1, 2, 3.
 #![tactic(auto)]
 
-ghost use Rattle.std.specs.Prelude.{◌≡◌, ◌+◌, ◌≤◌, ◌<◌, length, drop};
+ghost use Rattle.std.specs.Prelude.{◌≡◌, ◌+◌, ◌≤◌, length, drop};
 ghost use Rattle.std.proofs.lemmas.List.Edits.{sets};
 ghost use Rattle.groups.specs.Numbers.{number_bytes, up_to?, folded, unfolded};
-ghost use Rattle.groups.specs.Held.{number_of};
+ghost use Rattle.groups.specs.Held.{handed};
 
-// A number and the place behind it.
-#[derive(Clone, Copy, Drop)]
-pub enum Number {
-    Found(u32, usize),
-    Missing,
-}
-
-fn wide(b: u8) -> u64
-    ensures { (result ≡ b) × (result < 256) }
-{
-    b as u64
-}
-
-// The number of at most `most` that begins at a place.
-pub fn read_up_to(s: &[u8], at: usize, most: u32) -> Number
-    ensures { result ≡ number_of (length s.now) (up_to? most (drop at s.now)) }
+// The number of at most `most` that begins at a place, and the place behind it.
+pub fn read_up_to(s: &[u8], at: usize, most: u32) -> Option<(u32, usize)>
+    ensures { result ≡ handed (length s.now) (up_to? most (drop at s.now)) }
 {
     let mut v: u64 = 0;
-    let mut k: u32 = 0;
     let mut i = at;
-    while k < 5 {
+    for k in 0..5u32 {
         if i >= s.len() {
-            return Number::Missing;
+            return None;
         }
-        let b = wide(s[i]);
-        v = v | (b & 0x7f) << (7 * k);
+        let b = s[i] as u64;
+        v |= (b & 0x7f) << (7 * k);
         i += 1;
-        if b >> 7 == 0 {
+        if b < 128 {
             if (b == 0) & (k != 0) {
-                return Number::Missing;
+                return None;
             }
             if v > most as u64 {
-                return Number::Missing;
+                return None;
             }
-            return Number::Found(v as u32, i);
+            return Some((v as u32, i));
         }
-        k += 1;
     }
-    Number::Missing
+    None
 }
 
-pub fn read_number(s: &[u8], at: usize) -> Number
-    ensures { result ≡ number_of (length s.now) (up_to? 4294967295 (drop at s.now)) }
+pub fn read_number(s: &[u8], at: usize) -> Option<(u32, usize)>
+    ensures { result ≡ handed (length s.now) (up_to? 4294967295 (drop at s.now)) }
 {
-    read_up_to(s, at, 4294967295)
+    read_up_to(s, at, u32::MAX)
 }
 
 // How many bytes a number takes.
+#[tactic(auto, using(crate::proofs::Walk::group_turn, crate::proofs::Walk::group_end), unfolding(crate::specs::Numbers::number_bytes))]
 pub fn number_len(x: u32) -> usize
     ensures { (result ≡ length (number_bytes x)) × (result ≤ 5) }
 {
     let mut y = x;
     let mut k = 0;
-    while y >> 7 != 0 {
-        y = y >> 7;
+    // Kept: seven bits go at a turn until the rest fits; there is no index to count.
+    while y >= 128 {
+        y >>= 7;
         k += 1;
     }
     k + 1
 }
 
 // A number from a place on, and the place behind it.
+#[tactic(auto, using(crate::proofs::Walk::group_turn, crate::proofs::Walk::group_end, crate::proofs::Walk::high_set), unfolding(crate::specs::Numbers::number_bytes))]
 pub fn write_number(out: &mut [u8], at: usize, x: u32) -> usize
     requires { at + length (number_bytes x) ≤ length out.old }
     ensures { (out.new ≡ sets out.old at (number_bytes x)) × (length out.new ≡ length out.old) × (result ≡ at + length (number_bytes x)) }
 {
     let mut y = x;
     let mut i = at;
-    while y >> 7 != 0 {
+    // Kept: seven bits go at a turn until the rest fits; there is no index to count.
+    while y >= 128 {
         out[i] = (y & 0x7f | 0x80) as u8;
-        y = y >> 7;
+        y >>= 7;
         i += 1;
     }
     out[i] = y as u8;
@@ -86,16 +75,14 @@ pub fn write_number(out: &mut [u8], at: usize, x: u32) -> usize
 pub fn fold(n: i32) -> u32
     ensures { result ≡ folded n }
 {
-    if n < 0 {
-        ((-1 - n) as u32) << 1 | 1
-    } else {
-        (n as u32) << 1
-    }
+    let m = n.unsigned_abs();
+    if n < 0 { (m - 1) * 2 + 1 } else { m * 2 }
 }
 
+#[tactic(auto, unfolding(crate::specs::Numbers::unfolded))]
 pub fn unfold(x: u32) -> i32
     ensures { result ≡ unfolded x }
 {
-    let h = (x >> 1) as i32;
-    if x & 1 == 0 { h } else { -1 - h }
+    let h = (x / 2) as i32;
+    if x % 2 == 0 { h } else { -1 - h }
 }

@@ -7,7 +7,7 @@ use lib.Dec.{eqb}
 use lib.Ieee.{Float, is_nan}
 use lib.ListN.{length}
 use Rattle.exponents.specs.Words.{All}
-use Rattle.exponents.specs.Outcome.{SHAPE, UNKNOWN, ROOM, RANGE, UNITS, DIVZERO, ZERONEG, NONWHOLE, NAN, DENOMINATOR, number, Outcome, given, refused, bind, each}
+use Rattle.exponents.specs.Outcome.{SHAPE, UNKNOWN, ROOM, RANGE, UNITS, DIVZERO, ZERONEG, NONWHOLE, NAN, DENOMINATOR, number, Outcome, Ok, Err, bind, each}
 use Rattle.exponents.specs.declared.Exponent.{Exponent}
 use Rattle.exponents.proofs.Words.{pick_is}
 use Rattle.floats.specs.Values.{is_zero}
@@ -91,7 +91,7 @@ module _ (R : Rules Float) (w : All WholeBase R.bases) where
 verdict_whole : (x : Float) {o : Outcome Float} → Spared Any o → Spared Any (equal_to x o)
 unfolding equal_to
 verdict_whole x (gives h) = gives tt
-verdict_whole x (stops {r = r} s) = pick_is (Spared Any) (eqb (number r) (number UNITS)) {a = given false} {b = refused r} (gives tt) (stops s)
+verdict_whole x (stops {r = r} s) = pick_is (Spared Any) (eqb (number r) (number UNITS)) {a = Ok false} {b = Err r} (gives tt) (stops s)
 
 ordered-whole : (x y : Float) → Spared Any (ordered x y)
 unfolding ordered
@@ -120,13 +120,13 @@ module _ (t : Rows) (w : WholeRows t) where
     of_two a b f h k g = spared_bind _ (table-whole t w) λ ks d. spared_bind _ (both-whole (length ks) a b h k) (g ks (rules_whole t ks d))
 
   -- THEOREM: admission
-  pub table_never : table t ≡ refused DENOMINATOR → ⊥
+  pub table_never : table t ≡ Err DENOMINATOR → ⊥
   table_never = never (table-whole t w)
 
   -- ---- one list
   module _ (a : Factors) (h : WholeList a) where
     -- THEOREM: the canonical form
-    pub canonical_never : lists.canonical t a ≡ refused DENOMINATOR → ⊥
+    pub canonical_never : lists.canonical t a ≡ Err DENOMINATOR → ⊥
     unfolding lists.canonical
     canonical_never = never (of_one a _ h λ ks b fs p. canon_whole (rules_in t ks).order fs p)
 
@@ -135,23 +135,23 @@ module _ (t : Rows) (w : WholeRows t) where
     reduction_spared = of_one a _ h λ ks b fs p. reduction_whole (rules_in t ks) b (base_rows t) fs p
 
     -- THEOREM: the reduction of a list
-    pub reduction_never : lists.reduction t a ≡ refused DENOMINATOR → ⊥
+    pub reduction_never : lists.reduction t a ≡ Err DENOMINATOR → ⊥
     reduction_never = never reduction_spared
 
     -- THEOREM: its power to a whole exponent
-    pub power_never : (e : Exponent) → WholeExponent e → lists.list_power t a e ≡ refused DENOMINATOR → ⊥
+    pub power_never : (e : Exponent) → WholeExponent e → lists.list_power t a e ≡ Err DENOMINATOR → ⊥
     unfolding lists.list_power units.list_power
     power_never e x = never (of_one a _ h λ ks b fs p. spared_unless _ SHAPE refl (raised-whole e x fs p))
 
   -- ---- two lists
   module _ (a b : Factors) (h : WholeList a) (k : WholeList b) where
     -- THEOREM: equality of lists
-    pub same_never : lists.same_lists t a b ≡ refused DENOMINATOR → ⊥
+    pub same_never : lists.same_lists t a b ≡ Err DENOMINATOR → ⊥
     unfolding lists.same_lists
     same_never = never (of_two a b _ h k λ ks d p q. equal-whole (rules_in t ks) d p.0 p.1 q.0 q.1)
 
     -- THEOREM: the smaller unit
-    pub smaller_never : lists.smaller_unit t a b ≡ refused DENOMINATOR → ⊥
+    pub smaller_never : lists.smaller_unit t a b ≡ Err DENOMINATOR → ⊥
     unfolding lists.smaller_unit
     smaller_never = never (of_two a b _ h k λ ks d p q. spared_map {Q = Any} _ (smaller_whole (rules_in t ks) d p.0 p.1 q.0 q.1) λ s _. tt)
 
@@ -160,40 +160,40 @@ module _ (t : Rows) (w : WholeRows t) where
     product_spared = of_two a b _ h k λ ks d p q. joined-whole p.0 p.1 q.0 q.1
 
     -- THEOREM: the product
-    pub product_never : lists.product t a b ≡ refused DENOMINATOR → ⊥
+    pub product_never : lists.product t a b ≡ Err DENOMINATOR → ⊥
     product_never = never product_spared
 
     -- THEOREM: the quotient
-    pub quotient_never : lists.quotient t a b ≡ refused DENOMINATOR → ⊥
+    pub quotient_never : lists.quotient t a b ≡ Err DENOMINATOR → ⊥
     unfolding lists.quotient units.quotient
     quotient_never = never (of_two a b _ h k λ ks d p q. joined-whole p.0 (map inverted p.1) q.0 (inverted-whole p.1 q.1))
 
   -- ---- one quantity
   module _ (q : Quantity) (h : WholeList q.unit) where
     -- THEOREM: the reduction of a quantity
-    pub reduce_never : values.reduce t q ≡ refused DENOMINATOR → ⊥
+    pub reduce_never : values.reduce t q ≡ Err DENOMINATOR → ⊥
     unfolding values.reduce
     reduce_never = never (spared_map {Q = Any} _ (reduction_spared q.unit h) λ p _. tt)
 
     -- THEOREM: its conversion
-    pub convert_never : (m : Factors) → WholeList m → quantities.convert_to t q m ≡ refused DENOMINATOR → ⊥
+    pub convert_never : (m : Factors) → WholeList m → quantities.convert_to t q m ≡ Err DENOMINATOR → ⊥
     unfolding quantities.convert_to
     convert_never m k = never (of_two q.unit m _ h k λ ks d p c. spared_map {Q = Any} _ (convert_whole (rules_in t ks) d p.0 p.1 q.value c.0 c.1) λ v _. tt)
 
     -- THEOREM: and with factors cancelled on both sides (02, order 3)
-    pub merged_never : (m : Factors) → WholeList m → quantities.convert_merged t q m ≡ refused DENOMINATOR → ⊥
+    pub merged_never : (m : Factors) → WholeList m → quantities.convert_merged t q m ≡ Err DENOMINATOR → ⊥
     unfolding quantities.convert_merged
     merged_never m k = never (of_two q.unit m _ h k λ ks d p c. spared_map {Q = Any} _ (cancelling_whole (rules_in t ks) d p.0 p.1 q.value c.0 c.1) λ v _. tt)
 
   -- ---- two quantities
   module _ (q p : Quantity) (h : WholeList q.unit) (k : WholeList p.unit) where
     -- THEOREM: equality
-    pub equal_never : quantities.equal t q p ≡ refused DENOMINATOR → ⊥
+    pub equal_never : quantities.equal t q p ≡ Err DENOMINATOR → ⊥
     unfolding quantities.equal
     equal_never = never (of_two q.unit p.unit _ h k λ ks d l c. verdict_whole q.value (convert_whole (rules_in t ks) d l.1 l.0 p.value c.1 c.0))
 
     -- THEOREM: comparison
-    pub compare_never : quantities.compare t q p ≡ refused DENOMINATOR → ⊥
+    pub compare_never : quantities.compare t q p ≡ Err DENOMINATOR → ⊥
     unfolding quantities.compare
     compare_never =
         never (of_two q.unit p.unit _ h k λ ks d l c.
@@ -201,12 +201,12 @@ module _ (t : Rows) (w : WholeRows t) where
         (spared_bind _ (convert_whole (rules_in t ks) d l.1 l.0 p.value c.1 c.0) λ y _. ordered-whole q.value y))
 
     -- THEOREM: the product of quantities
-    pub multiply_never : values.multiply t q p ≡ refused DENOMINATOR → ⊥
+    pub multiply_never : values.multiply t q p ≡ Err DENOMINATOR → ⊥
     unfolding values.multiply
     multiply_never = never (spared_map {Q = Any} _ (product_spared q.unit p.unit h k) λ l _. tt)
 
     -- THEOREM: their quotient
-    pub divide_never : values.checked_div t q p ≡ refused DENOMINATOR → ⊥
+    pub divide_never : values.checked_div t q p ≡ Err DENOMINATOR → ⊥
     unfolding values.checked_div
     divide_never =
         never (of_two q.unit p.unit _ h k λ ks d l c.
@@ -221,17 +221,17 @@ module _ (t : Rows) (w : WholeRows t) where
         (added_whole (rules_in t ks) d minus q.value p.value l.0 l.1 c.0 c.1))
 
     -- THEOREM: their sum
-    pub add_never : sums.add t q p ≡ refused DENOMINATOR → ⊥
+    pub add_never : sums.add t q p ≡ Err DENOMINATOR → ⊥
     unfolding sums.add
     add_never = never (summed_spared false _)
 
     -- THEOREM: their difference
-    pub subtract_never : sums.subtract t q p ≡ refused DENOMINATOR → ⊥
+    pub subtract_never : sums.subtract t q p ≡ Err DENOMINATOR → ⊥
     unfolding sums.subtract
     subtract_never = never (summed_spared true _)
 
     -- THEOREM: a power, whose exponent is converted to scalar
-    pub raise_never : powers.checked_power t q p ≡ refused DENOMINATOR → ⊥
+    pub raise_never : powers.checked_power t q p ≡ Err DENOMINATOR → ⊥
     unfolding powers.checked_power
     raise_never =
         never (of_two q.unit p.unit _ h k λ ks d l c.

@@ -7,7 +7,7 @@ use lib.Dec.{eqb, ltb}
 use lib.Ieee.{Float}
 use lib.ListN.{length, get_or}
 use Rattle.exponents.specs.Words.{All}
-use Rattle.exponents.specs.Outcome.{TABLE, SHAPE, Outcome, given}
+use Rattle.exponents.specs.Outcome.{TABLE, SHAPE, Outcome, Ok}
 use Rattle.exponents.specs.Fractions.{nought, unit, lcm?}
 use Rattle.exponents.specs.declared.Exponent.{Exponent}
 use Rattle.exponents.proofs.Holds.{bind_given}
@@ -44,7 +44,7 @@ unfolding exp_at
 bases-whole n ks h = all_mapped WholeBase (exp_at ks) (λ j r. all_found WholeExponent nought refl (get_or ks r nobody).exps j (all_found WholeFacts nobody tt ks r h)) (places 0 n)
 
 -- ---- a key: the common multiple of ones is 1
-multiple-whole : (l : List Exponent) → All WholeExponent l → multiple 1 l ≡ given 1
+multiple-whole : (l : List Exponent) → All WholeExponent l → multiple 1 l ≡ Ok 1
 unfolding multiple
 multiple-whole [] h = refl
 multiple-whole (x ∷ l) h = bind_given _ (ap (lcm? 1) h.0 ∙ lcm-one 1 (omega arith) (omega arith)) ∙ multiple-whole l h.1

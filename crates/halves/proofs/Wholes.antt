@@ -6,7 +6,7 @@ use Prim.Native.Nat.{ℕ, ◌*◌, Ordering}
 use lib.IntN.{ℤ, nat_abs}
 use lib.Dec.{eqb}
 use Rattle.exponents.specs.Words.{All}
-use Rattle.exponents.specs.Outcome.{Refusal, RANGE, DENOMINATOR, number, Outcome, given, refused, unless, apply, bind, each}
+use Rattle.exponents.specs.Outcome.{Refusal, RANGE, DENOMINATOR, number, Outcome, Ok, Err, unless, apply, bind, each}
 use Rattle.exponents.specs.Fractions.{lowest, add, mul, neg, nought, numerator_beyond, ranged, sum?}
 use Rattle.exponents.specs.declared.Exponent.{Exponent}
 use Rattle.exponents.proofs.Divisors.{gcd-one}
@@ -32,18 +32,18 @@ Other r = eqb (number r) (number DENOMINATOR) ≡ false
 
 -- if it refuses, then by another refusal; if it answers, P holds of its answer
 pub data Spared {A : Type 0} (P : A → Type 0) : Outcome A → Type 0 where
-  gives : {a : A} → P a → Spared P (given a)
-  stops : {r : Refusal} → Other r → Spared P (refused r)
+  gives : {a : A} → P a → Spared P (Ok a)
+  stops : {r : Refusal} → Other r → Spared P (Err r)
 
 -- whatever is answered
 abbrev pub Any : {A : Type 0} → A → Type 0
 Any a = Unit {0}
 
-abbrev of_refused : {A : Type 0} (P : A → Type 0) {r : Refusal} → Spared P (refused r) → Other r
+abbrev of_refused : {A : Type 0} (P : A → Type 0) {r : Refusal} → Spared P (Err r) → Other r
 of_refused P (stops h) = h
 
 module _ {A : Type 0} {P : A → Type 0} where
-  pub never : {o : Outcome A} → Spared P o → o ≡ refused DENOMINATOR → ⊥
+  pub never : {o : Outcome A} → Spared P o → o ≡ Err DENOMINATOR → ⊥
   never h e = true≢false (of_refused P (subst (λ q. Spared P q) e h))
 
   pub spared_unless : (t : Bool) (r : Refusal) {o : Outcome A} → Other r → Spared P o → Spared P (unless t r o)

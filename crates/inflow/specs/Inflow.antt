@@ -1,10 +1,6 @@
 -- The bytes of a buffer that were read and not used: moved to its front, and more read behind them.
-use Rattle.std.specs.Prelude.{◌≡◌, List, ◌++◌, ℕ, ◌-◌, ◌≤◌, ltb, length, take, drop}
+use Rattle.std.specs.Prelude.{◌≡◌, List, ℕ, ◌-◌, ◌≤◌, ltb, length, take, drop}
 use Rattle.inflow.specs.declared.Held.{Held}
-
--- the n bytes from place at on stand at the front, and the further ones are as they were
-abbrev pub moved : ℕ → ℕ → List ℕ → List ℕ
-moved at n s = take n (drop at s) ++ drop n s
 
 -- the bytes of the buffer t, filled again, that were read
 abbrev pub fresh : ℕ → ℕ → Held → List ℕ → List ℕ

@@ -3,7 +3,7 @@
 
 ghost use Rattle.std.specs.Prelude.{◌≡◌, ◌-◌, ◌≤◌, length};
 ghost use Rattle.std.specs.Io.KnownBytes.{Consumes};
-ghost use Rattle.inflow.specs.Inflow.{moved, fresh, Refilled};
+ghost use Rattle.inflow.specs.Inflow.{fresh, Refilled};
 
 use std::io::Read;
 
@@ -23,20 +23,6 @@ pub fn space() -> [u8; 524288]
     [0; 524288]
 }
 
-// Moves s[at..end] to the front of s; the bytes behind its new place stay.
-fn shift(s: &mut [u8], at: usize, end: usize)
-    requires { (at ≤ end) × (end ≤ length s.old) }
-    ensures { s.new ≡ moved at (end - at) s.old }
-{
-    let mut i: usize = 0;
-    let mut j = at;
-    while j < end {
-        s[i] = s[j];
-        i += 1;
-        j += 1;
-    }
-}
-
 // Moves the `end - at` bytes that are left to the front, and reads more behind them, once, as the source gives them. A
 // read that fails counts as one that finds nothing.
 pub fn refill<R: Read>(source: &mut R, inp: &mut [u8], at: usize, end: usize) -> Held
@@ -44,7 +30,7 @@ pub fn refill<R: Read>(source: &mut R, inp: &mut [u8], at: usize, end: usize) ->
     ensures refilled { Refilled inp.old at end result inp.new }
     ensures bytes { Consumes (R.remaining source.old) (R.remaining source.new) (fresh at end result inp.new) }
 {
-    shift(inp, at, end);
+    inp.copy_within(at..end, 0);
     let have = end - at;
     let n = source.read(&mut inp[have..]).unwrap_or(0);
     Held {

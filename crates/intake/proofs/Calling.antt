@@ -6,6 +6,7 @@ use lib.IntN.{ℤ}
 use Rattle.units.specs.declared.Factors.{Factors}
 use Rattle.units.specs.declared.Rows.{Rows}
 use Rattle.units.specs.Lists.{pack}
+use Rattle.exponents.specs.Outcome.{Outcome}
 use Rattle.lists.specs.declared.opening.Opened.{Opened}
 use Rattle.lists.specs.Held.{Opens}
 
@@ -17,5 +18,5 @@ module _ {O R : Type 0} {of : O → R} {r : R} {P : O → Type 0} (told : (o : O
   with_two f e p q = told (f _ _) (cc)
 
 -- a call on one list opens it beside the empty one
-pub alone : (t : Rows) (l : Factors) {o : Opened} {none : Factors} {nums : List ℤ} {dens : List ℕ} → Opens t l none o nums dens → none ≡ pack [] → Opens t l (pack []) o nums dens
+pub alone : (t : Rows) (l : Factors) {o : Outcome Opened} {none : Factors} {nums : List ℤ} {dens : List ℕ} → Opens t l none o nums dens → none ≡ pack [] → Opens t l (pack []) o nums dens
 alone t l {o} {none} {nums} {dens} h n = subst (λ b. Opens t l b o nums dens) n h

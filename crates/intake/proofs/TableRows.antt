@@ -14,7 +14,9 @@ use Rattle.exponents.specs.Outcome.{TABLE}
 use Rattle.units.specs.declared.Kind.TheVariants.{Base, Derived}
 use Rattle.units.specs.declared.Row.{Row}
 use Rattle.tables.specs.declared.Slot.{Slot}
+use Rattle.std.specs.Prelude.{Result}
 use Rattle.tables.specs.declared.Admitted.{Admitted}
+use Rattle.tables.specs.declared.Rejected.{Rejected}
 use Rattle.exponents.specs.Words.{pick}
 use Rattle.tables.specs.Rows.{slotted, slots, rows_of, Admission, stopped, admit_from, admit}
 use Rattle.tables.proofs.Admitting.{Tells, within, over}
@@ -66,7 +68,7 @@ module _ (s : List ℕ) (n : ℕ) (is : n ≡ many_in 176 128 (length s)) where
         go (suc m) e = omega (arith, row_inside m (omega arith))
 
     -- what is told of the rows is told of the table
-    pub whole : (r : Admitted) (nums : List ℤ) (dens : List ℕ) (scales : List Float) (ranks : List ℕ) (based : List Bool)
+    pub whole : (r : Result Admitted Rejected) (nums : List ℤ) (dens : List ℕ) (scales : List Float) (ranks : List ℕ) (based : List Bool)
         → Tells (slots (run_at row_at 176 n s 0)) (admit_from (slots (run_at row_at 176 n s 0)) [] (run_at row_at 176 n s 0)) r nums dens scales ranks based
         → Tells (slots (rows_of (table_from s))) (admit (table_from s)) r nums dens scales ranks based
     whole r nums dens scales ranks based t =

@@ -6,15 +6,16 @@
 ghost use Rattle.std.specs.Prelude.{◌≡◌, ◌*◌, ◌≤◌, length};
 ghost use Rattle.tables.specs.Rows as rows;
 ghost use Rattle.tables.specs.Rows.{base_rows};
-ghost use Rattle.tables.specs.Held.{pack_slots, Room, Blank, admitted_of, Admits};
-ghost use Rattle.lists.specs.Held.{Opens};
+ghost use Rattle.tables.specs.Held.{pack_slots, BlankIn, admitted_of, AdmitsIn};
+ghost use Rattle.lists.specs.Held.{OpensTo};
 ghost use Rattle.wire.specs.Bytes.{run_at};
 ghost use Rattle.wire.specs.Records.{row_at};
 ghost use Rattle.wire.specs.Arguments.{table_from};
 
-use exponents::refusals::TABLE;
+use exponents::refusals::Refusal;
 use lists::opening::Opened;
-use tables::{Admitted, Slot, Slots, admission, ranked};
+use tables::pages::Columns;
+use tables::{Admitted, Rejected, Slot, Slots, admission, ranked};
 use units::{Factors, Kind};
 use wire::arguments::many;
 use wire::numbers::read_u16;
@@ -26,77 +27,62 @@ fn slots_of(s: &[u8], n: usize) -> Slots
     ensures { result ≡ pack_slots (rows.slots (run_at row_at 176 n s.now 0)) }
 {
     let mut slots = ranked::no_slots();
-    let mut i: usize = 0;
-    while i < n {
+    for i in 0..n {
         let kind = read_u16(s, i * 176 + 2);
         if kind == 0 {
-            let k = Kind::Base;
             let row = Slot {
                 row: i as u32,
                 rank: read_u16(s, i * 176),
             };
-            slots = ranked::slotted(slots, k, row);
+            slots = ranked::slotted(slots, Kind::Base, row);
         }
-        i += 1;
     }
     slots
 }
 
-// The rows of a table in bytes, put in the five arrays; or the first fault's refusal, and how many rows stood before it.
-pub fn admit_bytes(
-    s: &[u8],
-    nums: &mut [i32],
-    dens: &mut [u32],
-    scales: &mut [f64],
-    ranks: &mut [u16],
-    based: &mut [bool],
-) -> Admitted
-    requires { Room nums.old dens.old scales.old ranks.old based.old × Blank 0 nums.old dens.old }
-    ensures { Admits (table_from s.now) result nums.new dens.new scales.new ranks.new based.new }
+// The rows of a table in bytes, put in columns; or the first fault's refusal, and how many rows stood before it.
+pub fn admit_bytes(s: &[u8], columns: &mut Columns) -> Result<Admitted, Rejected>
+    requires { BlankIn 0 columns.old }
+    ensures { AdmitsIn (table_from s.now) result columns.new }
 {
     let n = many(s.len(), 176, 128);
     if 128 < n {
-        return admission::refused(TABLE, 0);
+        return Err(Rejected {
+            refusal: Refusal::Table,
+            len: 0,
+        });
     }
     let slots = slots_of(s, n);
-    let mut bases: usize = 0;
-    let mut i: usize = 0;
-    while i < n {
+    let mut bases = 0;
+    for i in 0..n {
         let row = read_row(s, i * 176);
-        let c = admission::admit_row(row, i, slots, bases, nums, dens, scales, ranks, based);
-        if c != 0 {
-            return admission::refused(c, i);
+        let entered = admission::admit_row(row, i, slots, bases, columns);
+        if let Err(refusal) = entered {
+            return Err(Rejected { refusal, len: i });
         }
-        let k = row.kind;
-        bases = admission::counted(k, bases);
-        i += 1;
+        bases = admission::counted(row.kind, bases);
     }
-    Admitted {
-        slots: slots,
-        len: n,
-        refusal: 0,
-    }
-}
-// A table alone, checked.
-pub fn admitted(s: &[u8]) -> Admitted
-    ensures { result ≡ admitted_of (base_rows (table_from s.now)) (rows.admit (table_from s.now)) }
-{
-    let mut nums = [0i32; 2048];
-    let mut dens = [1u32; 2048];
-    let mut scales = [1.0; 128];
-    let mut ranks = [0u16; 128];
-    let mut based = [false; 128];
-    admit_bytes(s, &mut nums, &mut dens, &mut scales, &mut ranks, &mut based)
+    Ok(Admitted { slots, len: n })
 }
 
-// A table and two lists, checked in 01's order; the base exponents of the table's rows are left in two arrays, which have to be new.
-pub fn open_lists(s: &[u8], a: Factors, b: Factors, nums: &mut [i32], dens: &mut [u32]) -> Opened
-    requires { (length nums.old ≡ 2048) × (length dens.old ≡ 2048) × Blank 0 nums.old dens.old }
-    ensures { Opens (table_from s.now) a b result nums.new dens.new }
+// A table alone, checked.
+pub fn admitted(s: &[u8]) -> Result<Admitted, Rejected>
+    ensures { result ≡ admitted_of (base_rows (table_from s.now)) (rows.admit (table_from s.now)) }
 {
-    let mut scales = [1.0; 128];
-    let mut ranks = [0u16; 128];
-    let mut based = [false; 128];
-    let t = admit_bytes(s, nums, dens, &mut scales, &mut ranks, &mut based);
-    lists::opening::open_over(t, nums, dens, &scales, &ranks, &based, a, b)
+    let mut columns = Columns::blank();
+    admit_bytes(s, &mut columns)
+}
+
+// A table and two lists, checked in 01's order; what is known of the table's rows is left in columns, which have to be new.
+pub fn open_lists(
+    s: &[u8],
+    a: Factors,
+    b: Factors,
+    columns: &mut Columns,
+) -> Result<Opened, Refusal>
+    requires { BlankIn 0 columns.old }
+    ensures { OpensTo (table_from s.now) a b result columns.new }
+{
+    let t = admit_bytes(s, columns);
+    lists::opening::open_over(t, columns, a, b)
 }

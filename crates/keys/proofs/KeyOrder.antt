@@ -12,11 +12,11 @@ use lib.Signed.{lt_z}
 use mir.Syntax.{w64}
 use mir.Val.{SFits, to_z, of_z}
 use mir.Facts.{to_z-of_z}
-use borrow.Author.Tests.{ltb-true, ltb-false}
+use borrow.Author.Tests.{ltb-true, ltb-false, lt-ltb}
+use Rattle.std.specs.Ordering.{int_cmp}
 use Rattle.keys.specs.Key.{entry, entries}
 use Rattle.keys.specs.Orders.{then, lists, compare_z, pairs}
 use Rattle.keys.specs.Held.{sense_of, more}
-use Rattle.keys.specs.declared.order.Sense.TheVariants.{Less, Greater}
 use Rattle.exponents.proofs.Places.{rest}
 
 -- ---- numbers
@@ -41,11 +41,19 @@ less_z (pos a) (negsuc b) e = absurd (true≢false (sym e))
 less_z (negsuc a) (pos b) e = refl
 less_z (negsuc a) (negsuc b) e = less_nat b a (ltb-true b a e)
 
-pub more_z : (x y : ℤ) → lt_z x y ≡ false → (x ≡ y → ⊥) → compare_z x y ≡ Ordering.gt
-more_z (pos a) (pos b) e n = let k = ltb-false a b e in let l : a ≡ b → ⊥ = λ h. n (ap pos h) in more_nat a b (omega arith)
-more_z (pos a) (negsuc b) e n = refl
+more_z : (x y : ℤ) → lt_z x y ≡ false → (x ≡ y → ⊥) → (lt_z y x ≡ true) × (compare_z x y ≡ Ordering.gt)
+more_z (pos a) (pos b) e n = let k = ltb-false a b e in let l : a ≡ b → ⊥ = λ h. n (ap pos h) in (lt-ltb b a (omega arith), more_nat a b (omega arith))
+more_z (pos a) (negsuc b) e n = (refl, refl)
 more_z (negsuc a) (pos b) e n = absurd (true≢false e)
-more_z (negsuc a) (negsuc b) e n = let k = ltb-false b a e in let l : a ≡ b → ⊥ = λ h. n (ap negsuc h) in more_nat b a (omega arith)
+more_z (negsuc a) (negsuc b) e n = let k = ltb-false b a e in let l : a ≡ b → ⊥ = λ h. n (ap negsuc h) in (lt-ltb a b (omega arith), more_nat b a (omega arith))
+
+-- code compares them as the definition does
+pub cmp_z : (x y : ℤ) → (x ≡ y → ⊥) → int_cmp x y ≡ sense_of (compare_z x y)
+cmp_z x y n = go (lt_z x y) refl
+  where
+    go : (t : Bool) → lt_z x y ≡ t → int_cmp x y ≡ sense_of (compare_z x y)
+    go true e = rw (e, less_z x y e)
+    go false e = let m = more_z x y e n in rw (e, m.0, m.1)
 
 -- two numbers are the same if their bits are
 pub bits-same : {x y : ℤ} → SFits w64 x → SFits w64 y → of_z w64 x ≡ of_z w64 y → x ≡ y
@@ -152,17 +160,15 @@ module _ {a b : List ℤ} {p : ℕ} (q : Parted a b p) where
         ∙ ap₂ (lists pairs) (entry-some (at a p) p _ (λ e. u (ap (of_z w64) e))) (entry-some (at b p) p _ (λ e. v (ap (of_z w64) e)))
         ∙ rw (same_nat p)
 
-    by : {o : Ordering} → compare_z (at a p) (at b p) ≡ o → sense_of (then o (lists pairs (from (p + 1) a) (from (p + 1) b))) ≡ sense_of (lists pairs (from p a) (from p b))
-    by e = sym (ap sense_of numbers ∙ ap (λ o. sense_of (then o (lists pairs (from (p + 1) a) (from (p + 1) b)))) e)
+    read : int_cmp (to_z w64 (of_z w64 (at a p))) (to_z w64 (of_z w64 (at b p))) ≡ sense_of (compare_z (at a p) (at b p))
+    read = ap₂ int_cmp (to_z-of_z q.fits-first) (to_z-of_z q.fits-second) ∙ cmp_z (at a p) (at b p) q.differ
 
-    read : lt_z (to_z w64 (of_z w64 (at a p))) (to_z w64 (of_z w64 (at b p))) ≡ lt_z (at a p) (at b p)
-    read = ap₂ lt_z (to_z-of_z q.fits-first) (to_z-of_z q.fits-second)
-
-    pub both-less : lt_z (to_z w64 (of_z w64 (at a p))) (to_z w64 (of_z w64 (at b p))) ≡ true → Less ≡ sense_of (lists pairs (from p a) (from p b))
-    both-less e = by (less_z (at a p) (at b p) (sym read ∙ e))
-
-    pub both-more : lt_z (to_z w64 (of_z w64 (at a p))) (to_z w64 (of_z w64 (at b p))) ≡ false → Greater ≡ sense_of (lists pairs (from p a) (from p b))
-    both-more e = by (more_z (at a p) (at b p) (sym read ∙ e) q.differ)
+    pub both : int_cmp (to_z w64 (of_z w64 (at a p))) (to_z w64 (of_z w64 (at b p))) ≡ sense_of (lists pairs (from p a) (from p b))
+    both = read ∙ decided (lt_z (at a p) (at b p)) refl ∙ sym (ap sense_of numbers)
+      where
+        decided : (t : Bool) → lt_z (at a p) (at b p) ≡ t → sense_of (compare_z (at a p) (at b p)) ≡ sense_of (then (compare_z (at a p) (at b p)) (lists pairs (from (p + 1) a) (from (p + 1) b)))
+        decided true e = rw (less_z (at a p) (at b p) e)
+        decided false e = rw (more_z (at a p) (at b p) e q.differ).1
 
 -- ---- a search for a number other than zero
 

@@ -6,7 +6,7 @@ use native.Mathlib.Nat.{mul_comm, mul-pos, zero-lt-suc}
 use native.Mathlib.Omega.{arith}
 use lib.IntN.{ℤ, pos, negsuc, nat_abs, ◌*ℤ◌, *ℤ_comm, zero-*ℤ}
 use lib.ListN.{get_or}
-use Rattle.exponents.specs.Outcome.{given}
+use Rattle.exponents.specs.Outcome.{Ok}
 use Rattle.exponents.specs.Fractions.{nought, lowest, mul}
 use Rattle.exponents.specs.declared.Exponent.{Exponent}
 use Rattle.exponents.proofs.Exact as fl
@@ -104,7 +104,7 @@ first_Some [] h = record { low = fl.unit_low; some = λ q. let z : ◌≡◌ {A 
 first_Some (x ∷ d) h = other_Some x.num x (first d) refl h.0 (first_Some d h.1)
 
 -- ---- rows with one key
-module _ (d e : List Exponent) (k : List ℤ) (hd : All Low d) (he : All Low e) (kd : key d ≡ given k) (ke : key e ≡ given k) where
+module _ (d e : List Exponent) (k : List ℤ) (hd : All Low d) (he : All Low e) (kd : key d ≡ Ok k) (ke : key e ≡ Ok k) where
   r : OnRay k d
   r = take_out (key_ray d hd) kd
 

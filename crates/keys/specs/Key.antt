@@ -2,13 +2,13 @@
 use Rattle.std.specs.Prelude.{Bool, true, false, List, [], ◌∷◌, ℕ, zero, suc, ◌/◌, ℤ, pos, negsuc, neg_ℤ, nat_abs, ◌*ℤ◌}
 use Rattle.std.specs.Int.Signed.{quot_z}
 use Rattle.exponents.specs.Gcd.{gcd}
-use Rattle.exponents.specs.Outcome.{Outcome, given, apply, bind}
+use Rattle.exponents.specs.Outcome.{Outcome, Ok, apply, bind}
 use Rattle.exponents.specs.Fractions.{unit, lcm?}
 use Rattle.exponents.specs.declared.Exponent.{Exponent}
 
 -- the least common multiple of m and the denominators, built left to right
 unfoldable pub multiple : ℕ → List Exponent → Outcome ℕ
-multiple m [] = given m
+multiple m [] = Ok m
 multiple m (x ∷ l) = bind (lcm? m x.den) (λ n. multiple n l)
 
 -- m x, for a multiple m of the denominator

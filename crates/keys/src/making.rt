@@ -1,70 +1,55 @@
 // A row's key (01, "Canonical form"), from its base exponents in rank order: one whole number for each.
-// Public: `key_of`, `key_fault`. Neither asks anything of its caller.
-ghost use Rattle.std.specs.Prelude.{◌≡◌, ◌≤◌, nat_abs};
-ghost use Rattle.exponents.specs.Outcome.{refusal_of};
+// Public: `key_of`, `check_key`. Neither asks anything of its caller.
+ghost use Rattle.std.specs.Prelude.{◌≡◌, ◌≤◌, nat_abs, IfOk};
+ghost use Rattle.exponents.specs.Outcome.{tested};
 ghost use Rattle.exponents.specs.Fractions.{most, lcm?};
-ghost use Rattle.exponents.specs.Held.{multiple_of, with_sign};
+ghost use Rattle.exponents.specs.Held.{with_sign};
 ghost use Rattle.keys.specs.Key as spec;
-ghost use Rattle.keys.specs.Held.{keyed_of, part};
+ghost use Rattle.keys.specs.Held.{part};
 
-use exponents::{Exponent, Multiple, signs};
-
-// A key's numbers, one for each base row in rank order, or zeros beside the number of the refusal.
-#[derive(Clone, Copy, Drop)]
-pub struct Key {
-    pub nums: [i64; 16],
-    pub refusal: u32,
-}
+use exponents::refusals::Refusal;
+use exponents::{Exponent, signs};
 
 // ---- the common multiple of the denominators
 
 // One denominator more; most are 1, which changes nothing.
-fn joined(m: u32, b: u32) -> Multiple
+#[tactic(auto, using(crate::proofs::KeyLaws::joining))]
+fn joined(m: u32, b: u32) -> Result<u32, Refusal>
     requires { (1 ≤ m) × (m ≤ most) }
-    ensures { result ≡ multiple_of (lcm? m b) }
+    ensures value { result ≡ lcm? m b }
+    ensures sound { IfOk result (λ n. (1 ≤ n) × (n ≤ most)) }
 {
     if b == 1 {
-        return Multiple::Common(m);
+        return Ok(m);
     }
     exponents::common_multiple(m, b)
 }
 
 // The least common multiple of all; a refusal is passed on.
-fn multiple(d: [Exponent; 16]) -> Multiple
-    ensures { result ≡ multiple_of (spec.multiple 1 d) }
+#[tactic(auto, using(exponents::proofs::Taking::drop_step_of, exponents::proofs::Taking::drop_end_of), unfolding(crate::specs::Key::multiple, exponents::specs::Outcome::bind))]
+fn multiple(d: [Exponent; 16]) -> Result<u32, Refusal>
+    ensures { result ≡ spec.multiple 1 d }
 {
-    let mut m: u32 = 1;
-    let mut i: usize = 0;
-    while i < 16 {
-        let x = d[i];
-        let n = joined(m, x.den);
-        match n {
-            Multiple::Common(k) => {
-                m = k;
-            }
-            Multiple::Refused(r) => {
-                return Multiple::Refused(r);
-            }
-        }
-        i += 1;
+    let mut m = 1;
+    for x in &d {
+        m = joined(m, x.den)?;
     }
-    Multiple::Common(m)
+    Ok(m)
 }
 
-// The refusal of a key, 0 for none.
-pub fn key_fault(d: [Exponent; 16]) -> u32
-    ensures { result ≡ refusal_of (spec.key d) }
+// Whether there is a key.
+#[tactic(auto, unfolding(crate::specs::Key::key))]
+pub fn check_key(d: [Exponent; 16]) -> Result<(), Refusal>
+    ensures { result ≡ tested (spec.key d) }
 {
-    let m = multiple(d);
-    match m {
-        Multiple::Common(n) => 0,
-        Multiple::Refused(r) => r,
-    }
+    multiple(d)?;
+    Ok(())
 }
 
 // ---- the numbers, each by its size and its sign
 
 // |m x|. A common multiple has no denominator 0: the test only spares callers a proof of it.
+#[tactic(auto, using(crate::proofs::KeyLaws::size_is, crate::proofs::KeyLaws::no_top, crate::proofs::KeyLaws::no_bottom, exponents::proofs::Size::cross, crate::proofs::KeyLaws::quotient_small))]
 fn size(m: u32, x: Exponent) -> u64
     ensures { (result ≡ nat_abs (spec.whole m x)) × (result ≤ 9223372034707292160) }
 {
@@ -80,35 +65,33 @@ fn size(m: u32, x: Exponent) -> u64
 }
 
 // The greatest common divisor of the sizes.
+#[tactic(auto, using(exponents::proofs::Taking::drop_step_of, exponents::proofs::Taking::drop_end_of), unfolding(crate::specs::Key::divisor, crate::specs::Key::wholes))]
 fn divisor(m: u32, d: [Exponent; 16]) -> u64
     ensures { result ≡ spec.divisor 0 (spec.wholes m d) }
 {
-    let mut g: u64 = 0;
-    let mut i: usize = 0;
-    while i < 16 {
-        let x = d[i];
-        g = exponents::gcd(g, size(m, x));
-        i += 1;
+    let mut g = 0;
+    for x in &d {
+        g = exponents::gcd(g, size(m, *x));
     }
     g
 }
 
 // Whether the first number that is not zero is below zero.
+#[tactic(auto, using(exponents::proofs::Taking::drop_step_of, exponents::proofs::Taking::drop_end_of, crate::proofs::KeyLaws::below_none, crate::proofs::KeyLaws::below_some), unfolding(crate::specs::Key::wholes))]
 fn turned(m: u32, d: [Exponent; 16]) -> bool
     ensures { result ≡ spec.below (spec.wholes m d) }
 {
-    let mut i: usize = 0;
-    while i < 16 {
-        let x = d[i];
-        if size(m, x) != 0 {
-            return signs::below(x);
+    for x in &d {
+        if size(m, *x) != 0 {
+            return signs::below(*x);
         }
-        i += 1;
     }
     false
 }
 
 // n or -n
+// Kept: a key is stated by its sign and its size.
+#[tactic(auto, using(exponents::proofs::Size::minus_read))]
 fn signed(neg: bool, n: u64) -> i64
     requires { n ≤ 9223372034707292160 }
     ensures { result ≡ with_sign neg n }
@@ -118,6 +101,7 @@ fn signed(neg: bool, n: u64) -> i64
 }
 
 // m x or -m x, divided by g, which is 0 only where all numbers are.
+#[tactic(auto, using(crate::proofs::KeyLaws::part_is, crate::proofs::KeyLaws::no_part))]
 fn part(s: bool, g: u64, m: u32, x: Exponent) -> i64
     ensures { result ≡ part s g m x }
 {
@@ -137,32 +121,18 @@ fn reduced(m: u32, d: [Exponent; 16]) -> [i64; 16]
 {
     let g = divisor(m, d);
     let s = turned(m, d);
-    let mut k: [i64; 16] = [0; 16];
-    let mut i: usize = 0;
-    while i < 16 {
-        let x = d[i];
-        k[i] = part(s, g, m, x);
-        i += 1;
+    let mut k = [0; 16];
+    for i in 0..16 {
+        k[i] = part(s, g, m, d[i]);
     }
     k
 }
 
-// A row's key from its base exponents.
-pub fn key_of(d: [Exponent; 16]) -> Key
-    ensures { result ≡ keyed_of (spec.key d) }
+// A row's key from its base exponents: a number for each base row in rank order.
+#[tactic(auto, unfolding(crate::specs::Key::key))]
+pub fn key_of(d: [Exponent; 16]) -> Result<[i64; 16], Refusal>
+    ensures { result ≡ spec.key d }
 {
-    let m = multiple(d);
-    match m {
-        Multiple::Common(n) => {
-            let k = reduced(n, d);
-            Key {
-                nums: k,
-                refusal: 0,
-            }
-        }
-        Multiple::Refused(r) => Key {
-            nums: [0; 16],
-            refusal: r,
-        },
-    }
+    let m = multiple(d)?;
+    Ok(reduced(m, d))
 }

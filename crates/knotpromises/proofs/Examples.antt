@@ -7,7 +7,7 @@ use lib.IntN.{pos, negsuc}
 use lib.Ieee as ieee
 use lib.Ieee.{Float, binary64, to_bits, of_bits}
 use lib.ListN.{length, replicate}
-use Rattle.exponents.specs.Outcome.{Outcome, given, refused, number, unless, bind, each}
+use Rattle.exponents.specs.Outcome.{Outcome, Ok, Err, number, unless, bind, each}
 use Rattle.exponents.specs.Held.{worked}
 use Rattle.floats.specs.Power.{bits_of, raise, power}
 use Rattle.units.specs.declared.Factor.{Factor}
@@ -147,12 +147,12 @@ abbrev ruled : List Factor → ℕ → ℕ → Rule
 ruled l d t = record { unit = pack l; tolerance = of_bits binary64 t; degree = d }
 
 abbrev shown : Outcome (List Run) → ℕ × List (ℕ × ℕ)
-shown (given rs) = (0, map (λ r. (to_bits binary64 r.first, r.times)) rs)
-shown (refused w) = (number w, [])
+shown (Ok rs) = (0, map (λ r. (to_bits binary64 r.first, r.times)) rs)
+shown (Err w) = (number w, [])
 
 abbrev told : Outcome Float → ℕ × ℕ
-told (given q) = (0, to_bits binary64 q)
-told (refused w) = (number w, 0)
+told (Ok q) = (0, to_bits binary64 q)
+told (Err w) = (number w, 0)
 
 abbrev Case : Type 0
 Case = (ℕ × List (ℕ × ℕ)) × (ℕ × List (ℕ × ℕ))

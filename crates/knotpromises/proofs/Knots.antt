@@ -10,7 +10,7 @@ use lib.ListN.{length, get_or, length-map}
 use lib.Ieee.{Float, binary64, nan, sub, lt, le}
 use lib.Ieee.Scale.{finite}
 use Rattle.exponents.specs.Words.{pick, All}
-use Rattle.exponents.specs.Outcome.{Refusal, ORDER, MULTIPLE, ARGUMENT, Outcome, given, refused}
+use Rattle.exponents.specs.Outcome.{Refusal, ORDER, MULTIPLE, ARGUMENT, Outcome, Ok, Err}
 use Rattle.exponents.proofs.Each.{Along, done, next}
 use Rattle.floats.specs.Power.{one}
 use Rattle.units.specs.declared.Factors.{Factors}
@@ -23,7 +23,7 @@ use Rattle.knotruns.specs.Knots.{vector, quotient}
 use Rattle.knotruns.proofs.Conversions.{Sound}
 use Rattle.knotruns.proofs.Answers.{Answered, answered, converts-at}
 use Rattle.knotruns.proofs.Ordered.{finite_at, next_at}
-use Rattle.knotruns.proofs.Spans.{value_is, merged_is, standing-first, standing_on}
+use Rattle.knotruns.proofs.Spans.{value_is, merged_is, standing_first, standing_on}
 use Rattle.knotruns.proofs.Apart.{Apart}
 use Rattle.knotruns.proofs.Multiplicities as multiplicities
 use Rattle.knotruns.proofs.Multiplicities.{total}
@@ -43,17 +43,17 @@ use Rattle.knotpromises.proofs.Words.{At, span_of, bad_arguments, overfull, Beco
 
 -- the cases of a knot vector, in the order of 02's refusals: count, degree or tolerance; the lowest knot that doesn't convert; then of all values, NaN, an infinity or a fall; a run of over degree plus one knots; the runs
 pub data Case (t : Rows) (ks : List Quantity) (u : Rule) : Outcome (List Run) → Type 0 where
-  argument : bad_arguments ks u ≡ true → Case t ks u (refused ARGUMENT)
-  conversion : (r : Refusal) → bad_arguments ks u ≡ false → Lowest t u.unit ks r → Case t ks u (refused r)
-  order : (xs : List Float) → bad_arguments ks u ≡ false → Become t u.unit ks xs → unordered xs ≡ true → Case t ks u (refused ORDER)
-  multiple : (xs : List Float) → bad_arguments ks u ≡ false → Become t u.unit ks xs → unordered xs ≡ false → overfull u xs ≡ true → Case t ks u (refused MULTIPLE)
-  answer : (xs : List Float) → bad_arguments ks u ≡ false → Become t u.unit ks xs → unordered xs ≡ false → overfull u xs ≡ false → Case t ks u (given (runs u.tolerance xs))
+  argument : bad_arguments ks u ≡ true → Case t ks u (Err ARGUMENT)
+  conversion : (r : Refusal) → bad_arguments ks u ≡ false → Lowest t u.unit ks r → Case t ks u (Err r)
+  order : (xs : List Float) → bad_arguments ks u ≡ false → Become t u.unit ks xs → unordered xs ≡ true → Case t ks u (Err ORDER)
+  multiple : (xs : List Float) → bad_arguments ks u ≡ false → Become t u.unit ks xs → unordered xs ≡ false → overfull u xs ≡ true → Case t ks u (Err MULTIPLE)
+  answer : (xs : List Float) → bad_arguments ks u ≡ false → Become t u.unit ks xs → unordered xs ≡ false → overfull u xs ≡ false → Case t ks u (Ok (runs u.tolerance xs))
 
 -- those of a span quotient: the vector's refusals, then ARGUMENT for a span that isn't there; the quotient
 pub data SpanCase (t : Rows) (ks : List Quantity) (u : Rule) (i : ℕ) (x : Float) : Outcome Float → Type 0 where
-  no_vector : (r : Refusal) → knot_vector t ks u ≡ refused r → SpanCase t ks u i x (refused r)
-  no_span : (rs : List Run) → knot_vector t ks u ≡ given rs → length ks ≤ suc i → SpanCase t ks u i x (refused ARGUMENT)
-  span : (rs : List Run) → knot_vector t ks u ≡ given rs → suc i < length ks → SpanCase t ks u i x (given (quotient_at rs i x))
+  no_vector : (r : Refusal) → knot_vector t ks u ≡ Err r → SpanCase t ks u i x (Err r)
+  no_span : (rs : List Run) → knot_vector t ks u ≡ Ok rs → length ks ≤ suc i → SpanCase t ks u i x (Err ARGUMENT)
+  span : (rs : List Run) → knot_vector t ks u ≡ Ok rs → suc i < length ks → SpanCase t ks u i x (Ok (quotient_at rs i x))
 
 -- t is a table, ks are knots, u is a rule
 module _ (t : Rows) (ks : List Quantity) (u : Rule) where
@@ -100,20 +100,20 @@ module _ (t : Rows) (ks : List Quantity) (u : Rule) where
   no_other {o} c = by_core ∙ sym (core.only seen u.degree u.tolerance o (to_core c))
 
   -- THEOREM: a bad count, degree or tolerance is ARGUMENT, whatever the table and the knots
-  pub argument_first : bad_arguments ks u ≡ true → knot_vector t ks u ≡ refused ARGUMENT
+  pub argument_first : bad_arguments ks u ≡ true → knot_vector t ks u ≡ Err ARGUMENT
   argument_first f = no_other (argument f)
 
   -- count, degree and tolerance in order
   module _ (f : bad_arguments ks u ≡ false) where
     -- THEOREM: where a knot's conversion is refused and all before it convert, its refusal is answered, whatever the others are and in whatever order they stand
-    pub lowest_refused : (r : Refusal) → Lowest t u.unit ks r → knot_vector t ks u ≡ refused r
+    pub lowest_refused : (r : Refusal) → Lowest t u.unit ks r → knot_vector t ks u ≡ Err r
     lowest_refused r l = no_other (conversion r f l)
 
     -- THEOREM: and a refusal other than ORDER and MULTIPLE is that of the lowest knot that doesn't convert
-    pub lowest_only : (r : Refusal) → (r ≡ ORDER → ⊥) → (r ≡ MULTIPLE → ⊥) → knot_vector t ks u ≡ refused r → Lowest t u.unit ks r
+    pub lowest_only : (r : Refusal) → (r ≡ ORDER → ⊥) → (r ≡ MULTIPLE → ⊥) → knot_vector t ks u ≡ Err r → Lowest t u.unit ks r
     lowest_only r o m e = go one_case e
       where
-        go : {p : Outcome (List Run)} → Case t ks u p → p ≡ refused r → Lowest t u.unit ks r
+        go : {p : Outcome (List Run)} → Case t ks u p → p ≡ Err r → Lowest t u.unit ks r
         go (argument g) h = let z : ◌≡◌ {A = ℕ} 0 1 = cc in absurd (omega arith)
         go (conversion w g l) h = let n : r ≡ w = cc in rw n l
         go (order xs g b w) h = let n : r ≡ ORDER = cc in absurd (o n)
@@ -123,29 +123,29 @@ module _ (t : Rows) (ks : List Quantity) (u : Rule) where
     -- all knots convert, to the values xs
     module _ (xs : List Float) (b : Become t u.unit ks xs) where
       -- THEOREM: ORDER exactly where a value is NaN or infinite, or one is below the value before it
-      pub order_exactly : (knot_vector t ks u ≡ refused ORDER) ↔ (unordered xs ≡ true)
+      pub order_exactly : (knot_vector t ks u ≡ Err ORDER) ↔ (unordered xs ≡ true)
       order_exactly = (λ e. go (unordered xs) refl e, λ h. no_other (order xs f b h))
         where
-          crowd : (c : Bool) → unordered xs ≡ false → overfull u xs ≡ c → knot_vector t ks u ≡ refused ORDER → ⊥
+          crowd : (c : Bool) → unordered xs ≡ false → overfull u xs ≡ c → knot_vector t ks u ≡ Err ORDER → ⊥
           crowd true h c e = let g = sym (no_other (multiple xs f b h c)) ∙ e in let z : ◌≡◌ {A = ℕ} 0 1 = cc in omega arith
           crowd false h c e = let g = sym (no_other (answer xs f b h c)) ∙ e in let z : ◌≡◌ {A = ℕ} 0 1 = cc in omega arith
 
-          go : (w : Bool) → unordered xs ≡ w → knot_vector t ks u ≡ refused ORDER → unordered xs ≡ true
+          go : (w : Bool) → unordered xs ≡ w → knot_vector t ks u ≡ Err ORDER → unordered xs ≡ true
           go true h e = h
           go false h e = absurd (crowd (overfull u xs) h refl e)
 
       -- these are in order
       module _ (h : unordered xs ≡ false) where
         -- THEOREM: MULTIPLE exactly where a run has more knots than the degree plus one
-        pub multiple_exactly : (knot_vector t ks u ≡ refused MULTIPLE) ↔ (overfull u xs ≡ true)
+        pub multiple_exactly : (knot_vector t ks u ≡ Err MULTIPLE) ↔ (overfull u xs ≡ true)
         multiple_exactly = (λ e. go (overfull u xs) refl e, λ c. no_other (multiple xs f b h c))
           where
-            go : (w : Bool) → overfull u xs ≡ w → knot_vector t ks u ≡ refused MULTIPLE → overfull u xs ≡ true
+            go : (w : Bool) → overfull u xs ≡ w → knot_vector t ks u ≡ Err MULTIPLE → overfull u xs ≡ true
             go true c e = c
             go false c e = let g = sym (no_other (answer xs f b h c)) ∙ e in let z : ◌≡◌ {A = ℕ} 0 1 = cc in absurd (omega arith)
 
         -- THEOREM: else the runs of the values
-        pub else_runs : overfull u xs ≡ false → knot_vector t ks u ≡ given (runs u.tolerance xs)
+        pub else_runs : overfull u xs ≡ false → knot_vector t ks u ≡ Ok (runs u.tolerance xs)
         else_runs c = no_other (answer xs f b h c)
 
   -- ---- refusals of a span quotient
@@ -169,16 +169,16 @@ module _ (t : Rows) (ks : List Quantity) (u : Rule) where
     no_other_span {o} c = span_by_core i x ∙ sym (core.span_only seen u.degree u.tolerance i x o (span_to_core c))
 
   -- THEOREM: what refuses the vector refuses every span of it, there or not, for every x: the knots' refusals, ORDER and MULTIPLE
-  pub span_passes : (r : Refusal) → knot_vector t ks u ≡ refused r → (i : ℕ) (x : Float) → span_quotient t ks (span_of u i x) ≡ refused r
+  pub span_passes : (r : Refusal) → knot_vector t ks u ≡ Err r → (i : ℕ) (x : Float) → span_quotient t ks (span_of u i x) ≡ Err r
   span_passes r v i x = no_other_span i x (no_vector r v)
 
   -- THEOREM: and ARGUMENT for a bad count, degree or tolerance before all these
-  pub span_argument_first : bad_arguments ks u ≡ true → (i : ℕ) (x : Float) → span_quotient t ks (span_of u i x) ≡ refused ARGUMENT
+  pub span_argument_first : bad_arguments ks u ≡ true → (i : ℕ) (x : Float) → span_quotient t ks (span_of u i x) ≡ Err ARGUMENT
   span_argument_first f = span_passes ARGUMENT (argument_first f)
 
   -- ---- the answer
-  module _ (rs : List Run) (v : knot_vector t ks u ≡ given rs) where
-    of_core : vector seen u.degree u.tolerance ≡ given rs
+  module _ (rs : List Run) (v : knot_vector t ks u ≡ Ok rs) where
+    of_core : vector seen u.degree u.tolerance ≡ Ok rs
     of_core = sym by_core ∙ v
 
     shows : Answered seen u.degree u.tolerance rs
@@ -215,7 +215,7 @@ module _ (t : Rows) (ks : List Quantity) (u : Rule) where
     pub lowest_stands : (q : Quantity) (x : Float) → At ks 0 q → Becomes t u.unit q x → value_at rs 0 ≡ x
     lowest_stands q x a b =
         let p = seen_at 0 a b in
-        rw (shows.are, p.1) (value_is u.tolerance shows.values 0 p.0 ∙ standing-first u.tolerance shows.values)
+        rw (shows.are, p.1) (value_is u.tolerance shows.values 0 p.0 ∙ standing_first u.tolerance shows.values)
 
     -- the next knot, behind the one at place i
     module _ (i : ℕ) (q : Quantity) (x : Float) (a : At ks (suc i) q) (b : Becomes t u.unit q x) where
@@ -278,7 +278,7 @@ module _ (t : Rows) (ks : List Quantity) (u : Rule) where
     pub record OneRun (i j : ℕ) (x : Float) : Type 0 where
       pub one-run : (k : ℕ) → i ≤ k → k ≤ j → run_of rs k ≡ run_of rs i
       pub one_value : (k : ℕ) → i ≤ k → k ≤ j → value_at rs k ≡ x
-      pub no_span : (k : ℕ) → i ≤ k → k < j → (z : Float) → span_quotient t ks (span_of u k z) ≡ given plus_zero
+      pub no_span : (k : ℕ) → i ≤ k → k < j → (z : Float) → span_quotient t ks (span_of u k z) ≡ Ok plus_zero
 
     -- THEOREM: a knot that begins a run and another spelling of it later, with conversions whose rounded difference is at most the tolerance, are one run with all between them
     pub other_spelling : (i j : ℕ) (q p : Quantity) (x y : Float) → i ≤ j → At ks i q → At ks j p → Becomes t u.unit q x → Becomes t u.unit p y → begins rs i ≡ true → joins u.tolerance x y ≡ true → OneRun i j x
@@ -297,37 +297,37 @@ module _ (t : Rows) (ks : List Quantity) (u : Rule) where
     -- ---- spans: the one whose left knot is at place i
     module _ (i : ℕ) where
       -- THEOREM: a span that isn't there is ARGUMENT, after all else: the vector answers
-      pub span_last : length ks ≤ suc i → (x : Float) → span_quotient t ks (span_of u i x) ≡ refused ARGUMENT
+      pub span_last : length ks ≤ suc i → (x : Float) → span_quotient t ks (span_of u i x) ≡ Err ARGUMENT
       span_last h x = no_other_span i x (no_span rs v h)
 
       -- THEOREM: spans are 0 to the count less 2, and each has a quotient for every x
-      pub span_there : suc i < length ks → (x : Float) → span_quotient t ks (span_of u i x) ≡ given (quotient_at rs i x)
+      pub span_there : suc i < length ks → (x : Float) → span_quotient t ks (span_of u i x) ≡ Ok (quotient_at rs i x)
       span_there h x = no_other_span i x (span rs v h)
 
       -- THEOREM: a merged span gives +0 for every x, a NaN too
-      pub merged_span : suc i < length ks → merged_at rs i ≡ true → (x : Float) → span_quotient t ks (span_of u i x) ≡ given plus_zero
+      pub merged_span : suc i < length ks → merged_at rs i ≡ true → (x : Float) → span_quotient t ks (span_of u i x) ≡ Ok plus_zero
       merged_span h e x = span_by_core i x ∙ quotients.merged_span seen u.degree u.tolerance rs of_core i (rw many h) e x
 
       -- THEOREM: any other gives (x - left) / (right - left), each operation rounded, over a divisor above the tolerance and not zero
-      pub open_span : (x q : Float) → span_quotient t ks (span_of u i x) ≡ given q → merged_at rs i ≡ false → (q ≡ ratio (value_at rs i) (value_at rs (suc i)) x) × Apart u.tolerance (value_at rs i) (value_at rs (suc i))
+      pub open_span : (x q : Float) → span_quotient t ks (span_of u i x) ≡ Ok q → merged_at rs i ≡ false → (q ≡ ratio (value_at rs i) (value_at rs (suc i)) x) × Apart u.tolerance (value_at rs i) (value_at rs (suc i))
       open_span x q h = quotients.open_span seen u.degree u.tolerance rs of_core i x q (sym (span_by_core i x) ∙ h)
 
       -- THEOREM: at the left end's own bits it is +0
-      pub at_left : (q : Float) → span_quotient t ks (span_of u i (value_at rs i)) ≡ given q → q ≡ plus_zero
+      pub at_left : (q : Float) → span_quotient t ks (span_of u i (value_at rs i)) ≡ Ok q → q ≡ plus_zero
       at_left q h = quotients.at_left seen u.degree u.tolerance rs of_core i q (sym (span_by_core i (value_at rs i)) ∙ h)
 
       -- of a span whose ends aren't an infinity apart
       module _ (w : T (finite (sub binary64 (value_at rs (suc i)) (value_at rs i)))) where
         -- THEOREM: at the right end's own bits it is exactly 1, unless the span is merged
-        pub at_right : (q : Float) → span_quotient t ks (span_of u i (value_at rs (suc i))) ≡ given q → merged_at rs i ≡ false → q ≡ one
+        pub at_right : (q : Float) → span_quotient t ks (span_of u i (value_at rs (suc i))) ≡ Ok q → merged_at rs i ≡ false → q ≡ one
         at_right q h = quotients.at_right seen u.degree u.tolerance rs of_core i w q (sym (span_by_core i (value_at rs (suc i))) ∙ h)
 
         -- THEOREM: for left ≤ x ≤ right it lies from 0 to 1
-        pub quotient_within : (x q : Float) → span_quotient t ks (span_of u i x) ≡ given q → T (le (value_at rs i) x) → T (le x (value_at rs (suc i))) → T (le plus_zero q) × T (le q one)
+        pub quotient_within : (x q : Float) → span_quotient t ks (span_of u i x) ≡ Ok q → T (le (value_at rs i) x) → T (le x (value_at rs (suc i))) → T (le plus_zero q) × T (le q one)
         quotient_within x q h = quotients.within seen u.degree u.tolerance rs of_core i w x q (sym (span_by_core i x) ∙ h)
 
         -- THEOREM: and for left ≤ x ≤ y ≤ right the quotient of x is at most that of y
-        pub quotient_rises : (x y q p : Float) → span_quotient t ks (span_of u i x) ≡ given q → span_quotient t ks (span_of u i y) ≡ given p → T (le (value_at rs i) x) → T (le x y) → T (le y (value_at rs (suc i))) → T (le q p)
+        pub quotient_rises : (x y q p : Float) → span_quotient t ks (span_of u i x) ≡ Ok q → span_quotient t ks (span_of u i y) ≡ Ok p → T (le (value_at rs i) x) → T (le x y) → T (le y (value_at rs (suc i))) → T (le q p)
         quotient_rises x y q p h k = quotients.rises seen u.degree u.tolerance rs of_core i w x y q p (sym (span_by_core i x) ∙ h) (sym (span_by_core i y) ∙ k)
 
 -- ---- what the answers depend on

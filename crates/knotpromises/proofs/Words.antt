@@ -8,7 +8,7 @@ use native.Mathlib.Omega.{arith}
 use lib.ListN.{length, get_elem?}
 use lib.Ieee.{Float}
 use Rattle.exponents.specs.Words.{All}
-use Rattle.exponents.specs.Outcome.{Refusal, Outcome, given, refused, apply}
+use Rattle.exponents.specs.Outcome.{Refusal, Outcome, Ok, Err, apply}
 use Rattle.exponents.proofs.Each.{Along, done, next, all_imp}
 use Rattle.exponents.proofs.Holds.{one_answer}
 use Rattle.units.specs.declared.Factors.{Factors}
@@ -44,7 +44,7 @@ module _ (t : Rows) (m : Factors) where
   -- the knot's complete merged conversion to the unit m answers, with the value x
   pub record Becomes (q : Quantity) (x : Float) : Type 0 where
     pub quantity : Quantity
-    pub answers : convert_merged t q m ≡ given quantity
+    pub answers : convert_merged t q m ≡ Ok quantity
     pub value_is : quantity.value ≡ x
 
   abbrev pub Convertible : Quantity → Type 0
@@ -59,7 +59,7 @@ module _ (t : Rows) (m : Factors) where
     pub place : ℕ
     pub knot : Quantity
     pub there : At ks place knot
-    pub refuses : convert_merged t knot m ≡ refused r
+    pub refuses : convert_merged t knot m ≡ Err r
     pub before : (j : ℕ) (q : Quantity) → j < place → At ks j q → Convertible q
 
   -- ---- a conversion and its value: the one place that opens it
@@ -68,31 +68,31 @@ module _ (t : Rows) (m : Factors) where
   unfolding merged_value
   value_by q o e = ap (apply (λ p. p.value)) e
 
-  value_of : {q : Quantity} {x : Float} → Becomes q x → merged_value t q m ≡ given x
-  value_of {q} b = value_by q _ b.answers ∙ ap given b.value_is
+  value_of : {q : Quantity} {x : Float} → Becomes q x → merged_value t q m ≡ Ok x
+  value_of {q} b = value_by q _ b.answers ∙ ap Ok b.value_is
 
-  of_value : (q : Quantity) (x : Float) → merged_value t q m ≡ given x → Becomes q x
+  of_value : (q : Quantity) (x : Float) → merged_value t q m ≡ Ok x → Becomes q x
   of_value q x h = go (convert_merged t q m) refl
     where
       go : (o : Outcome Quantity) → convert_merged t q m ≡ o → Becomes q x
-      go (given p) e = record { quantity = p; answers = e; value_is = one_answer (sym (value_by q (given p) e) ∙ h) }
-      go (refused r) e =
-          let g : refused r ≡ given x = sym (value_by q (refused r) e) ∙ h in
+      go (Ok p) e = record { quantity = p; answers = e; value_is = one_answer (sym (value_by q (Ok p) e) ∙ h) }
+      go (Err r) e =
+          let g : Err r ≡ Ok x = sym (value_by q (Err r) e) ∙ h in
           let z : ◌≡◌ {A = ℕ} 0 1 = cc in
           absurd (omega arith)
 
-  refusal_of_lem : (q : Quantity) (r : Refusal) → merged_value t q m ≡ refused r → convert_merged t q m ≡ refused r
+  refusal_of_lem : (q : Quantity) (r : Refusal) → merged_value t q m ≡ Err r → convert_merged t q m ≡ Err r
   refusal_of_lem q r h = go (convert_merged t q m) refl
     where
-      go : (o : Outcome Quantity) → convert_merged t q m ≡ o → convert_merged t q m ≡ refused r
-      go (given p) e =
-          let g : given p.value ≡ refused r = sym (value_by q (given p) e) ∙ h in
+      go : (o : Outcome Quantity) → convert_merged t q m ≡ o → convert_merged t q m ≡ Err r
+      go (Ok p) e =
+          let g : Ok p.value ≡ Err r = sym (value_by q (Ok p) e) ∙ h in
           let z : ◌≡◌ {A = ℕ} 0 1 = cc in
           absurd (omega arith)
-      go (refused w) e =
-          let g : ◌≡◌ {A = Outcome Float} (refused w) (refused r) = sym (value_by q (refused w) e) ∙ h in
+      go (Err w) e =
+          let g : ◌≡◌ {A = Outcome Float} (Err w) (Err r) = sym (value_by q (Err w) e) ∙ h in
           let n : w ≡ r = cc in
-          e ∙ ap refused n
+          e ∙ ap Err n
 
   -- ---- in the list of conversions
 
@@ -140,7 +140,7 @@ module _ (t : Rows) (m : Factors) where
       ((0, record { knot = k; there = refl; becomes = b }), all_imp {P = OfKnot l} {Q = OfKnot (k ∷ l)} m (λ x p. (suc p.0, knot_on k l p.0 x p.1)) (all_knots a))
 
   -- the lowest refused, behind knots that all convert
-  pub lowest-of : (ks : List Quantity) (vs : List Float) (r : Refusal) (more : List (Outcome Float)) → conversions t ks m ≡ all vs ++ refused r ∷ more → Lowest ks r
+  pub lowest-of : (ks : List Quantity) (vs : List Float) (r : Refusal) (more : List (Outcome Float)) → conversions t ks m ≡ all vs ++ Err r ∷ more → Lowest ks r
   lowest-of [] [] r more h = let z : ◌≡◌ {A = ℕ} 0 1 = cc in absurd (omega arith)
   lowest-of [] (v ∷ vs) r more h = let z : ◌≡◌ {A = ℕ} 0 1 = cc in absurd (omega arith)
   lowest-of (k ∷ ks) [] r more h = record { place = 0; knot = k; there = refl; refuses = refusal_of_lem k r (cc); before = λ j q l a. absurd (omega arith) }
@@ -153,12 +153,12 @@ module _ (t : Rows) (m : Factors) where
       earlier b l (suc j) q h a = l.before j q (omega arith) a
 
   -- behind them: what the core sees
-  pub behind : (ks : List Quantity) (i : ℕ) (k : Quantity) (r : Refusal) → At ks i k → convert_merged t k m ≡ refused r → ((j : ℕ) (q : Quantity) → j < i → At ks j q → Convertible q) →
-      (vs : List Float) × (more : List (Outcome Float)) × (conversions t ks m ≡ all vs ++ refused r ∷ more)
+  pub behind : (ks : List Quantity) (i : ℕ) (k : Quantity) (r : Refusal) → At ks i k → convert_merged t k m ≡ Err r → ((j : ℕ) (q : Quantity) → j < i → At ks j q → Convertible q) →
+      (vs : List Float) × (more : List (Outcome Float)) × (conversions t ks m ≡ all vs ++ Err r ∷ more)
   behind [] i k r a h b = let z : ◌≡◌ {A = ℕ} 0 1 = cc in absurd (omega arith)
   behind (q ∷ ks) zero k r a h b =
       let e : q ≡ k = cc in
-      ([], conversions t ks m, ap (λ o. o ∷ conversions t ks m) (ap (λ p. merged_value t p m) e ∙ value_by k (refused r) h))
+      ([], conversions t ks m, ap (λ o. o ∷ conversions t ks m) (ap (λ p. merged_value t p m) e ∙ value_by k (Err r) h))
   behind (q ∷ ks) (suc i) k r a h b =
       let f = b 0 q (omega arith) refl in
       let s = behind ks i k r a h (λ j p l c. b (suc j) p (omega arith) c) in

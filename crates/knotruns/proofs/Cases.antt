@@ -7,7 +7,7 @@ use borrow.Author.Tests.{leb-true, leb-false, le-leb, lt-leb}
 use lib.Dec.{leb}
 use lib.ListN.{length}
 use lib.Ieee.{Float}
-use Rattle.exponents.specs.Outcome.{Refusal, ORDER, MULTIPLE, ARGUMENT, Outcome, given, refused, unless, bind}
+use Rattle.exponents.specs.Outcome.{Refusal, ORDER, MULTIPLE, ARGUMENT, Outcome, Ok, Err, unless, bind}
 use Rattle.exponents.proofs.Steps.{unless_on, unless_off, bind_on, bind_off}
 use Rattle.knotruns.specs.Values.{argument_fault, unordered}
 use Rattle.knotruns.specs.Runs.{Run, runs, crowded, quotient_at}
@@ -17,14 +17,14 @@ use Rattle.knotruns.proofs.Conversions.{all_given, given_all, stops, lowest, vec
 
 -- ARGUMENT for count, degree or tolerance; the refusal of the lowest knot that doesn't convert; ORDER; MULTIPLE; the runs
 pub data Case (cs : List (Outcome Float)) (d : ℕ) (t : Float) : Outcome (List Run) → Type 0 where
-  argument : argument_fault (length cs) d t ≡ true → Case cs d t (refused ARGUMENT)
-  conversion : argument_fault (length cs) d t ≡ false → (vs : List Float) (r : Refusal) (more : List (Outcome Float)) → cs ≡ all vs ++ refused r ∷ more → Case cs d t (refused r)
-  order : argument_fault (length cs) d t ≡ false → (xs : List Float) → cs ≡ all xs → unordered xs ≡ true → Case cs d t (refused ORDER)
-  multiple : argument_fault (length cs) d t ≡ false → (xs : List Float) → cs ≡ all xs → unordered xs ≡ false → crowded (suc d) (runs t xs) ≡ true → Case cs d t (refused MULTIPLE)
-  answer : argument_fault (length cs) d t ≡ false → (xs : List Float) → cs ≡ all xs → unordered xs ≡ false → crowded (suc d) (runs t xs) ≡ false → Case cs d t (given (runs t xs))
+  argument : argument_fault (length cs) d t ≡ true → Case cs d t (Err ARGUMENT)
+  conversion : argument_fault (length cs) d t ≡ false → (vs : List Float) (r : Refusal) (more : List (Outcome Float)) → cs ≡ all vs ++ Err r ∷ more → Case cs d t (Err r)
+  order : argument_fault (length cs) d t ≡ false → (xs : List Float) → cs ≡ all xs → unordered xs ≡ true → Case cs d t (Err ORDER)
+  multiple : argument_fault (length cs) d t ≡ false → (xs : List Float) → cs ≡ all xs → unordered xs ≡ false → crowded (suc d) (runs t xs) ≡ true → Case cs d t (Err MULTIPLE)
+  answer : argument_fault (length cs) d t ≡ false → (xs : List Float) → cs ≡ all xs → unordered xs ≡ false → crowded (suc d) (runs t xs) ≡ false → Case cs d t (Ok (runs t xs))
 
 module _ (cs : List (Outcome Float)) (d : ℕ) (t : Float) where
-  by_crowd : (xs : List Float) (b : Bool) → argument_fault (length cs) d t ≡ false → cs ≡ all xs → unordered xs ≡ false → crowded (suc d) (runs t xs) ≡ b → Case cs d t (unless b MULTIPLE (given (runs t xs)))
+  by_crowd : (xs : List Float) (b : Bool) → argument_fault (length cs) d t ≡ false → cs ≡ all xs → unordered xs ≡ false → crowded (suc d) (runs t xs) ≡ b → Case cs d t (unless b MULTIPLE (Ok (runs t xs)))
   by_crowd xs true f e u h = rw unless_on (multiple f xs e u h)
   by_crowd xs false f e u h = rw unless_off (answer f xs e u h)
 
@@ -35,8 +35,8 @@ module _ (cs : List (Outcome Float)) (d : ℕ) (t : Float) where
 
   by_converted : (o : Outcome (List Float)) → argument_fault (length cs) d t ≡ false → converted cs ≡ o → Case cs d t (bind o (merged d t))
   unfolding merged
-  by_converted (given xs) f e = rw bind_on (by_order xs (unordered xs) f (given_all cs xs e) refl)
-  by_converted (refused r) f e = let l = lowest cs r e in rw bind_off (conversion f l.0 r l.1 l.2)
+  by_converted (Ok xs) f e = rw bind_on (by_order xs (unordered xs) f (given_all cs xs e) refl)
+  by_converted (Err r) f e = let l = lowest cs r e in rw bind_off (conversion f l.0 r l.1 l.2)
 
   by_fault : (b : Bool) → argument_fault (length cs) d t ≡ b → Case cs d t (unless b ARGUMENT (bind (converted cs) (merged d t)))
   by_fault true h = rw unless_on (argument h)
@@ -59,18 +59,18 @@ only cs d t o (answer f xs e u m) = sym (vector_given cs d t xs f (ap converted 
 -- ---- the span quotient: the vector's refusals, then ARGUMENT for a span that isn't there
 
 pub data SpanCase (cs : List (Outcome Float)) (d : ℕ) (t : Float) (i : ℕ) (x : Float) : Outcome Float → Type 0 where
-  no_vector : (r : Refusal) → vector cs d t ≡ refused r → SpanCase cs d t i x (refused r)
-  no_span : (rs : List Run) → vector cs d t ≡ given rs → length cs ≤ suc i → SpanCase cs d t i x (refused ARGUMENT)
-  span : (rs : List Run) → vector cs d t ≡ given rs → suc i < length cs → SpanCase cs d t i x (given (quotient_at rs i x))
+  no_vector : (r : Refusal) → vector cs d t ≡ Err r → SpanCase cs d t i x (Err r)
+  no_span : (rs : List Run) → vector cs d t ≡ Ok rs → length cs ≤ suc i → SpanCase cs d t i x (Err ARGUMENT)
+  span : (rs : List Run) → vector cs d t ≡ Ok rs → suc i < length cs → SpanCase cs d t i x (Ok (quotient_at rs i x))
 
 module _ (cs : List (Outcome Float)) (d : ℕ) (t : Float) (i : ℕ) (x : Float) where
-  by_span : (rs : List Run) (b : Bool) → vector cs d t ≡ given rs → leb (length cs) (suc i) ≡ b → SpanCase cs d t i x (unless b ARGUMENT (given (quotient_at rs i x)))
+  by_span : (rs : List Run) (b : Bool) → vector cs d t ≡ Ok rs → leb (length cs) (suc i) ≡ b → SpanCase cs d t i x (unless b ARGUMENT (Ok (quotient_at rs i x)))
   by_span rs true e h = rw unless_on (no_span rs e (leb-true (length cs) (suc i) h))
   by_span rs false e h = rw unless_off (span rs e (leb-false (length cs) (suc i) h))
 
-  by_vector : (o : Outcome (List Run)) → vector cs d t ≡ o → SpanCase cs d t i x (bind o (λ rs. unless (leb (length cs) (suc i)) ARGUMENT (given (quotient_at rs i x))))
-  by_vector (given rs) e = rw bind_on (by_span rs (leb (length cs) (suc i)) e refl)
-  by_vector (refused r) e = rw bind_off (no_vector r e)
+  by_vector : (o : Outcome (List Run)) → vector cs d t ≡ o → SpanCase cs d t i x (bind o (λ rs. unless (leb (length cs) (suc i)) ARGUMENT (Ok (quotient_at rs i x))))
+  by_vector (Ok rs) e = rw bind_on (by_span rs (leb (length cs) (suc i)) e refl)
+  by_vector (Err r) e = rw bind_off (no_vector r e)
 
   -- THEOREM: one of these cases always holds, and the quotient is its answer
   pub span_case : SpanCase cs d t i x (quotient cs d t i x)

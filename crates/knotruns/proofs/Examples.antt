@@ -4,13 +4,13 @@ use mathlib.Core.Bool.{Bool, true, false}
 use mathlib.Core.List.{List, [], ◌∷◌, map}
 use Prim.Native.Nat.{ℕ}
 use lib.Ieee.{Float, binary64, lt, eq, le, sub, div, to_bits, of_bits}
-use Rattle.exponents.specs.Outcome.{Outcome, given, refused, number, unless, bind, each, UNITS, FRACTION}
+use Rattle.exponents.specs.Outcome.{UNITS, FRACTION, Outcome, Ok, Err, number, unless, bind, each}
 use Rattle.knotruns.specs.Values.{tolerable, argument_fault, endless, falls}
 use Rattle.knotruns.specs.Runs.{Run, joins, runs, runs_from, crowded, run_of, quotient_at}
 use Rattle.knotruns.specs.Knots.{uncrowded, merged, vector, quotient}
 
 abbrev is : ℕ → Outcome Float
-is b = given (of_bits binary64 b)
+is b = Ok (of_bits binary64 b)
 
 abbrev nought : ℕ
 nought = 0
@@ -62,8 +62,8 @@ record Vector : Type 0 where
   pairs : List Pair
 
 abbrev shown : List (Outcome Float) → ℕ → ℕ → Outcome (List Run) → Vector
-shown cs d t (given rs) = record { knots = cs; degree = d; tolerance = t; refusal = 0; pairs = map (λ r. pair (to_bits binary64 r.first) r.times) rs }
-shown cs d t (refused w) = record { knots = cs; degree = d; tolerance = t; refusal = number w; pairs = [] }
+shown cs d t (Ok rs) = record { knots = cs; degree = d; tolerance = t; refusal = 0; pairs = map (λ r. pair (to_bits binary64 r.first) r.times) rs }
+shown cs d t (Err w) = record { knots = cs; degree = d; tolerance = t; refusal = number w; pairs = [] }
 
 abbrev worked : Vector → Vector
 worked v = shown v.knots v.degree v.tolerance (vector v.knots v.degree (of_bits binary64 v.tolerance))
@@ -92,12 +92,12 @@ vectors =
     ∷ refuses (is one ∷ is one ∷ is one ∷ []) 1 nought 15
     ∷ gives (is one ∷ is one ∷ is two ∷ []) 1 nought (pair one 2 ∷ pair two 1 ∷ [])
     -- the lowest refused place, before ORDER; ARGUMENT before it
-    ∷ refuses (is one ∷ is half ∷ refused UNITS ∷ refused FRACTION ∷ []) 3 one 6
-    ∷ refuses (refused UNITS ∷ []) 0 one 16
-    ∷ refuses (refused UNITS ∷ []) 10 one 16
-    ∷ refuses (refused UNITS ∷ []) 9 not_a_number 16
-    ∷ refuses (refused UNITS ∷ []) 9 endless_up 16
-    ∷ refuses (refused UNITS ∷ []) 9 0x8000_0000_0000_0001 16
+    ∷ refuses (is one ∷ is half ∷ Err UNITS ∷ Err FRACTION ∷ []) 3 one 6
+    ∷ refuses (Err UNITS ∷ []) 0 one 16
+    ∷ refuses (Err UNITS ∷ []) 10 one 16
+    ∷ refuses (Err UNITS ∷ []) 9 not_a_number 16
+    ∷ refuses (Err UNITS ∷ []) 9 endless_up 16
+    ∷ refuses (Err UNITS ∷ []) 9 0x8000_0000_0000_0001 16
     ∷ refuses [] 3 one 16
     ∷ []
 
@@ -160,8 +160,8 @@ abbrev span_of : List (Outcome Float) → ℕ → ℕ → ℕ → ℕ → ℕ �
 span_of cs t i x r q = record { knots = cs; tolerance = t; place = i; x = x; refusal = r; result = q }
 
 abbrev told : Span → Outcome Float → Span
-told s (given q) = span_of s.knots s.tolerance s.place s.x 0 (to_bits binary64 q)
-told s (refused w) = span_of s.knots s.tolerance s.place s.x (number w) 0
+told s (Ok q) = span_of s.knots s.tolerance s.place s.x 0 (to_bits binary64 q)
+told s (Err w) = span_of s.knots s.tolerance s.place s.x (number w) 0
 
 abbrev found : Span → Span
 found s = told s (quotient s.knots 3 (of_bits binary64 s.tolerance) s.place (of_bits binary64 s.x))

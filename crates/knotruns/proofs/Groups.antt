@@ -8,7 +8,7 @@ use lib.Dec.{T}
 use lib.ListN.{length}
 use lib.Ieee.{Float, le}
 use lib.Ieee.Scale.{finite}
-use Rattle.exponents.specs.Outcome.{given}
+use Rattle.exponents.specs.Outcome.{Ok}
 use Rattle.floatlaws.proofs.Comparison.{finite_number, le_self, le_chain}
 use Rattle.knotruns.specs.Runs.{Run, run, joins, runs_from, runs}
 use Rattle.knotruns.specs.Knots.{vector}
@@ -85,7 +85,7 @@ groups-are-runs t [] o w = refl
 groups-are-runs t (g ∷ gs) o w = grouped_from t g gs o w
 
 -- THEOREM: so a knot vector of them that answers answers the groups
-pub groups-answered : (gs : List Group) (d : ℕ) (t : Float) (rs : List Run) → vector (all (knots gs)) d t ≡ given rs → Grouped t gs → rs ≡ map run_of_group gs
+pub groups-answered : (gs : List Group) (d : ℕ) (t : Float) (rs : List Run) → vector (all (knots gs)) d t ≡ Ok rs → Grouped t gs → rs ≡ map run_of_group gs
 groups-answered gs d t rs v w =
     let a = answered (all (knots gs)) d t rs v in
     let e : knots gs ≡ a.values = all_same (knots gs) a.values a.from in

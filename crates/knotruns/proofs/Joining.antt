@@ -7,12 +7,12 @@ use native.Mathlib.Omega.{arith}
 use lib.ListN.{length, get_or}
 use lib.Ieee.{Float, nan}
 use borrow.Author.Tests.{eqb-true, eq-eqb, not-true}
-use Rattle.exponents.specs.Outcome.{Outcome, given}
+use Rattle.exponents.specs.Outcome.{Outcome, Ok}
 use Rattle.knotruns.specs.Values.{plus_zero}
 use Rattle.knotruns.specs.Runs.{Run, joins, firsts, runs, run_of, value_at, merged_at}
 use Rattle.knotruns.specs.Knots.{vector, quotient}
 use Rattle.knotruns.specs.Held.{all, standing}
-use Rattle.knotruns.proofs.Spans.{value_is, merged_is, standing-first, standing_on}
+use Rattle.knotruns.proofs.Spans.{value_is, merged_is, standing_first, standing_on}
 use Rattle.knotruns.proofs.Answers.{answered, Converts, converts-at, given-at}
 use Rattle.knotruns.proofs.Ordered.{Ordered, finite_at, next_at, later_at}
 use Rattle.knotruns.proofs.Apart.{joins-below}
@@ -38,7 +38,7 @@ pub record Origin (cs : List (Outcome Float)) (rs : List Run) (i : ℕ) : Type 0
 
 module _ (t : Float) (xs : List Float) where
   begun : (i : ℕ) → i < length xs → begins (runs t xs) i ≡ true → standing t xs i ≡ get_or xs i nan
-  begun zero h e = standing-first t xs
+  begun zero h e = standing_first t xs
   begun (suc i) h e =
       let j : joins t (standing t xs i) (get_or xs (suc i) nan) ≡ false = sym (merged_is t xs i h) ∙ not-true _ e in
       standing_on t xs i h ∙ rw j
@@ -55,7 +55,7 @@ module _ (t : Float) (xs : List Float) where
       record { place = suc i; not_after = omega arith; first_one = g; one-run = refl; stands_for = rw (first_value (suc i) h g) (given-at xs (suc i) h) }
 
   origin : (i : ℕ) → i < length xs → Origin (all xs) (runs t xs) i
-  origin zero h = record { place = 0; not_after = omega arith; first_one = refl; one-run = refl; stands_for = rw (value_is t xs 0 h, standing-first t xs) (given-at xs 0 h) }
+  origin zero h = record { place = 0; not_after = omega arith; first_one = refl; one-run = refl; stands_for = rw (value_is t xs 0 h, standing_first t xs) (given-at xs 0 h) }
   origin (suc i) h = origin_on i (merged_at (runs t xs) i) h refl (origin i (omega arith))
 
   module _ (o : Ordered xs) where
@@ -81,12 +81,12 @@ module _ (t : Float) (xs : List Float) where
 origin_of : (t : Float) (xs : List Float) (cs : List (Outcome Float)) (rs : List Run) (i : ℕ) → cs ≡ all xs → rs ≡ runs t xs → i < length xs → Origin cs rs i
 origin_of t xs cs rs i c e h = rw (c, e) (origin t xs i h)
 
-module _ (cs : List (Outcome Float)) (d : ℕ) (t : Float) (rs : List Run) (v : vector cs d t ≡ given rs) where
+module _ (cs : List (Outcome Float)) (d : ℕ) (t : Float) (rs : List Run) (v : vector cs d t ≡ Ok rs) where
   -- what one run means for the knots from place i to place j
   pub record Merged (i j : ℕ) (x : Float) : Type 0 where
     pub one-run : (k : ℕ) → i ≤ k → k ≤ j → run_of rs k ≡ run_of rs i
     pub one_value : (k : ℕ) → i ≤ k → k ≤ j → value_at rs k ≡ x
-    pub no_span : (k : ℕ) → i ≤ k → k < j → (z : Float) → quotient cs d t k z ≡ given plus_zero
+    pub no_span : (k : ℕ) → i ≤ k → k < j → (z : Float) → quotient cs d t k z ≡ Ok plus_zero
 
   -- THEOREM: a knot that begins a run and a later one within the tolerance of it, by the one rounded subtraction, are of one run, with all between:
   -- the first's value stands for them all, and every span between them gives +0 for every x

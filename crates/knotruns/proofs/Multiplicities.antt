@@ -9,7 +9,7 @@ use lib.ListN.{length}
 use lib.Ieee.{Float}
 use borrow.Author.Tests.{ltb-false}
 use Rattle.exponents.specs.Words.{All}
-use Rattle.exponents.specs.Outcome.{Outcome, given}
+use Rattle.exponents.specs.Outcome.{Outcome, Ok}
 use Rattle.exponents.proofs.InRange.{or_left, or_right}
 use Rattle.exponents.proofs.Each.{all_both}
 use Rattle.knotruns.specs.Runs.{Run, runs_from, runs, crowded}
@@ -51,7 +51,7 @@ number_by : (rs : List Run) → All (λ r. 0 < r.times) rs → length rs ≤ tot
 number_by [] h = omega arith
 number_by (r ∷ rs) h = omega (arith, h.0, number_by rs h.1)
 
-module _ (cs : List (Outcome Float)) (d : ℕ) (t : Float) (rs : List Run) (v : vector cs d t ≡ given rs) where
+module _ (cs : List (Outcome Float)) (d : ℕ) (t : Float) (rs : List Run) (v : vector cs d t ≡ Ok rs) where
   -- THEOREM: the multiplicities add up to the knots given
   pub add_up : total rs ≡ length cs
   add_up = let a = answered cs d t rs v in ap total a.are ∙ total_runs t a.values ∙ sym a.many

@@ -7,7 +7,7 @@ use lib.Dec.{T}
 use lib.ListN.{length, get_or}
 use lib.Ieee.{Float, nan, lt}
 use lib.Ieee.Scale.{finite}
-use Rattle.exponents.specs.Outcome.{Outcome, given}
+use Rattle.exponents.specs.Outcome.{Outcome, Ok}
 use Rattle.floatlaws.proofs.Comparison.{lt_le, lt_chain}
 use Rattle.knotruns.specs.Runs.{Run, firsts, runs_from, runs}
 use Rattle.knotruns.specs.Knots.{vector}
@@ -53,7 +53,7 @@ chain_at t (r ∷ []) j c h = absurd (omega arith)
 chain_at t (r ∷ q ∷ rs) zero c h = c.0
 chain_at t (r ∷ q ∷ rs) (suc j) c h = chain_at t (q ∷ rs) j c.1 (omega arith)
 
-module _ (cs : List (Outcome Float)) (d : ℕ) (t : Float) (rs : List Run) (v : vector cs d t ≡ given rs) where
+module _ (cs : List (Outcome Float)) (d : ℕ) (t : Float) (rs : List Run) (v : vector cs d t ≡ Ok rs) where
   -- THEOREM: each distinct value is below the next, and the next less it, by one rounded subtraction, is above the tolerance, so not zero
   pub neighbours : (j : ℕ) → suc j < length rs → Apart t (distinct rs j) (distinct rs (suc j))
   neighbours j h = let a = answered cs d t rs v in chain_at t rs j (rw a.are (chain t a.values a.bears a.in_order)) h

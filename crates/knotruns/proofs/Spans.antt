@@ -1,12 +1,14 @@
 -- A span's ends by places among the runs are those that a walk over the values meets.
-use mathlib.Core.Path.{◌≡◌, refl, ◌∙◌}
+use mathlib.Core.Path.{◌≡◌, refl, ◌∙◌, ap}
 use mathlib.Core.Bool.{Bool, true, false}
 use mathlib.Core.List.{List, [], ◌∷◌}
 use Prim.Native.Nat.{ℕ, zero, suc, ◌+◌, ◌-◌, ◌≤◌, ◌<◌}
+use native.Mathlib.Nat.{add_comm}
 use native.Mathlib.Numerals.{add-one}
 use native.Mathlib.Omega.{arith}
 use lib.Dec.{eqb-zero-suc, eqb-suc-suc}
-use lib.ListN.{length, get_or}
+use lib.ListN.{length, get_or, take, drop}
+use lib.Seq.{get_or-take, get_or-drop}
 use lib.Ieee.{Float, nan}
 use borrow.Author.Tests.{lt-ltb, le-ltb}
 use Rattle.exponents.specs.Words.{pick}
@@ -102,16 +104,23 @@ reached_on t f [] n h = absurd (omega arith)
 reached_on t f (x ∷ l) zero h = refl
 reached_on t f (x ∷ l) (suc n) h = reached_on t (pick (joins t f x) f x) l n (omega arith)
 
-pub standing-first : (t : Float) (xs : List Float) → standing t xs 0 ≡ get_or xs 0 nan
+pub standing_first : (t : Float) (xs : List Float) → standing t xs 0 ≡ get_or xs 0 nan
 unfolding standing reached
-standing-first t [] = refl
-standing-first t (y ∷ []) = refl
-standing-first t (y ∷ z ∷ l) = refl
+standing_first t [] = refl
+standing_first t (y ∷ []) = refl
+standing_first t (y ∷ z ∷ l) = refl
 
 pub standing_on : (t : Float) (xs : List Float) (i : ℕ) → suc i < length xs → standing t xs (suc i) ≡ pick (joins t (standing t xs i) (get_or xs (suc i) nan)) (standing t xs i) (get_or xs (suc i) nan)
 unfolding standing
 standing_on t [] i h = absurd (omega arith)
 standing_on t (y ∷ l) i h = reached_on t y l i (omega arith)
+
+-- the same as code walks
+pub standing_next : (t : Float) (xs : List Float) (i : ℕ) → i + 1 < length xs → standing t xs (i + 1) ≡ pick (joins t (standing t xs i) (get_or xs (i + 1) nan)) (standing t xs i) (get_or xs (i + 1) nan)
+standing_next t xs i h = rw (add-one i) (standing_on t xs i (omega arith))
+
+pub next_read : (xs : List Float) (m i : ℕ) → i < m → get_or (take m (drop 1 xs)) i nan ≡ get_or xs (i + 1) nan
+next_read xs m i h = get_or-take m (drop 1 xs) i nan h ∙ get_or-drop 1 xs i nan ∙ ap (λ k. get_or xs k nan) (add_comm 1 i)
 
 -- ---- the quotient
 
@@ -119,9 +128,8 @@ either_end : (b : Bool) (f y x : Float) → pick b plus_zero (ratio f (pick b f 
 either_end true f y x = refl
 either_end false f y x = refl
 
-pub span_is : (t : Float) (xs : List Float) (i : ℕ) (x : Float) → i + 1 < length xs → quotient_at (runs t xs) i x ≡ pick (joins t (standing t xs i) (get_or xs (i + 1) nan)) plus_zero (ratio (standing t xs i) (get_or xs (i + 1) nan) x)
+pub span_is : (t : Float) (xs : List Float) (i : ℕ) (x : Float) → suc i < length xs → quotient_at (runs t xs) i x ≡ pick (joins t (standing t xs i) (get_or xs (suc i) nan)) plus_zero (ratio (standing t xs i) (get_or xs (suc i) nan) x)
 unfolding quotient_at
-span_is t xs i x h =
-    let g : suc i < length xs = omega arith in
-    rw (add-one i, merged_is t xs i g, value_is t xs i (omega arith), value_is t xs (suc i) g, standing_on t xs i g)
+span_is t xs i x g =
+    rw (merged_is t xs i g, value_is t xs i (omega arith), value_is t xs (suc i) g, standing_on t xs i g)
     (either_end (joins t (standing t xs i) (get_or xs (suc i) nan)) (standing t xs i) (get_or xs (suc i) nan) x)

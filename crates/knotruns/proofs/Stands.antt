@@ -8,13 +8,13 @@ use lib.Dec.{T}
 use lib.ListN.{length, get_or}
 use lib.Ieee.{Float, nan, le}
 use lib.Ieee.Scale.{finite}
-use Rattle.exponents.specs.Outcome.{Outcome, given}
+use Rattle.exponents.specs.Outcome.{Outcome, Ok}
 use Rattle.exponents.proofs.Words.{pick_by}
 use Rattle.floatlaws.proofs.Comparison.{finite_number, le_self, le_chain}
 use Rattle.knotruns.specs.Runs.{Run, joins, runs, value_at, merged_at}
 use Rattle.knotruns.specs.Knots.{vector}
 use Rattle.knotruns.specs.Held.{standing}
-use Rattle.knotruns.proofs.Spans.{value_is, merged_is, standing-first, standing_on}
+use Rattle.knotruns.proofs.Spans.{value_is, merged_is, standing_first, standing_on}
 use Rattle.knotruns.proofs.Answers.{answered, Converts, converts-at}
 use Rattle.knotruns.proofs.Ordered.{Tolerance, Ordered, finite_at, next_at}
 use Rattle.knotruns.proofs.Apart.{Apart, parts, joins_itself}
@@ -30,7 +30,7 @@ module _ (t : Float) (xs : List Float) (b : Tolerance t) (o : Ordered xs) where
   itself i h = let p = finite_at xs i o h in record { finite_one = p; not_above = le_self (get_or xs i nan) (finite_number (get_or xs i nan) p); within = joins_itself t (get_or xs i nan) b p }
 
   walked : (i : ℕ) → i < length xs → Stands t (standing t xs i) (get_or xs i nan)
-  walked zero h = rw (standing-first t xs) (itself 0 h)
+  walked zero h = rw (standing_first t xs) (itself 0 h)
   walked (suc i) h =
       let w = walked i (omega arith) in
       rw (standing_on t xs i h)
@@ -48,7 +48,7 @@ module _ (t : Float) (xs : List Float) (b : Tolerance t) (o : Ordered xs) where
       rw (value_is t xs i (omega arith), value_is t xs (suc i) h, standing_on t xs i h, j)
       (parts t (standing t xs i) (get_or xs (suc i) nan) b (walked i (omega arith)).finite_one (finite_at xs (suc i) o h) j)
 
-module _ (cs : List (Outcome Float)) (d : ℕ) (t : Float) (rs : List Run) (v : vector cs d t ≡ given rs) where
+module _ (cs : List (Outcome Float)) (d : ℕ) (t : Float) (rs : List Run) (v : vector cs d t ≡ Ok rs) where
   -- THEOREM: every knot lies within the tolerance of the value that stands for it, by the one rounded subtraction, and not below it
   pub near : (i : ℕ) (x : Float) → Converts cs i x → Stands t (value_at rs i) x
   near i x c =

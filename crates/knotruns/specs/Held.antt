@@ -1,25 +1,13 @@
--- How code hands outcomes over, and how it walks to a knot's run. No rule stands here.
-use Rattle.std.specs.Prelude.{List, [], ◌∷◌, map, ℕ, zero, suc, length, Float}
+-- Values that are all converted, and how code walks to a knot's run. No rule stands here.
+use Rattle.std.specs.Prelude.{List, [], ◌∷◌, map, ℕ, zero, suc, Float}
 use Rattle.std.specs.Float.{nan}
 use Rattle.exponents.specs.Words.{pick}
-use Rattle.exponents.specs.Outcome.{Outcome, given, refused, number}
-use Rattle.knotruns.specs.Runs.{Run, joins}
-use Rattle.knotruns.specs.declared.Told.{Told}
-use Rattle.knotruns.specs.declared.Quotient.{Quotient}
-use Rattle.knotruns.specs.declared.Told.TheVariants as told
-use Rattle.knotruns.specs.declared.Quotient.TheVariants as quo
-
-abbrev pub told_of : Outcome (List Run) → Told
-told_of (given rs) = told.Number (length rs)
-told_of (refused r) = told.Refused (number r)
-
-abbrev pub quotient_of : Outcome Float → Quotient
-quotient_of (given x) = quo.Value x
-quotient_of (refused r) = quo.Refused (number r)
+use Rattle.exponents.specs.Outcome.{Outcome, Ok}
+use Rattle.knotruns.specs.Runs.{joins}
 
 -- values all converted
 abbrev pub all : List Float → List (Outcome Float)
-all xs = map given xs
+all xs = map Ok xs
 
 -- a walk to a place: the first of the run at hand after n of l, and of the run that holds the knot at place i
 unfoldable pub reached : Float → Float → List Float → ℕ → Float

@@ -1,3 +1,2 @@
-pub mod Shelving
 pub mod Filling
 pub mod Handed

@@ -10,51 +10,46 @@ use units::{Candidate, Candidates, Factors, Kind, Row, Rows};
 pub fn no_row() -> Row
     ensures { result ≡ no_row }
 {
-    let none = units::lists::no_factor();
-    let kind = Kind::Base;
     Row {
-        def: [none; 8],
+        def: [units::lists::no_factor(); 8],
         len: 0,
         rank: 0,
-        kind,
+        kind: Kind::Base,
     }
 }
 
+#[tactic(auto, using(crate::proofs::Laws::over_is), unfolding(crate::specs::Lent::lent_rows_lem))]
 pub fn rows_of(rows: &[Row]) -> Rows
     ensures { result ≡ lent_rows_lem rows.now }
 {
-    let len = rows.len();
-    let none = no_row();
-    let mut at = [none; 128];
-    let mut i = 0;
-    while (i < len) & (i < 128) {
-        at[i] = rows[i];
-        i += 1;
+    let n = rows.len().min(128);
+    let mut at = [no_row(); 128];
+    at[..n].copy_from_slice(&rows[..n]);
+    Rows {
+        at,
+        len: rows.len(),
     }
-    Rows { at, len }
 }
 
 pub fn no_candidate() -> Candidate
     ensures { result ≡ no_candidate }
 {
-    let none = units::lists::no_factor();
     let unit = Factors {
-        at: [none; 16],
+        at: [units::lists::no_factor(); 16],
         len: 0,
     };
     Candidate { unit, rank: 0 }
 }
 
+#[tactic(auto, using(crate::proofs::Laws::over_is), unfolding(crate::specs::Lent::lent_candidates))]
 pub fn candidates_of(candidates: &[Candidate]) -> Candidates
     ensures { result ≡ lent_candidates candidates.now }
 {
-    let len = candidates.len();
-    let none = no_candidate();
-    let mut at = [none; 32];
-    let mut i = 0;
-    while (i < len) & (i < 32) {
-        at[i] = candidates[i];
-        i += 1;
+    let n = candidates.len().min(32);
+    let mut at = [no_candidate(); 32];
+    at[..n].copy_from_slice(&candidates[..n]);
+    Candidates {
+        at,
+        len: candidates.len(),
     }
-    Candidates { at, len }
 }

@@ -1,16 +1,15 @@
 -- What the functions by value read or keep, laid over the lent rows, is what the calls say and leave: there is a place for every row.
-use mathlib.Core.Path.{◌≡◌, refl, sym, subst}
-use mathlib.Core.List.{List, [], ◌++◌}
+use mathlib.Core.Path.{◌≡◌, refl, sym, ap, subst, ◌∙◌}
+use mathlib.Core.List.{List, ◌++◌}
 use Prim.Native.Nat.{ℕ, ◌≤◌}
-use native.Mathlib.Omega.{arith}
 use lib.ListN.{length, drop, replicate, length-replicate}
-use Rattle.exponents.specs.Outcome.{Outcome, given, refused}
+use Rattle.exponents.specs.Outcome.{Refusal, Ok, Err}
+use Rattle.exponents.proofs.Numbers.{apply_refuses, apply_answers}
 use Rattle.units.specs.declared.Row.{Row}
+use Rattle.units.specs.declared.Rows.{Rows}
 use Rattle.lent.specs.Lent.{no_row, lent_rows_lem}
 use Rattle.lentwrites.specs.Held.{laid}
 use Rattle.lentwrites.proofs.Laws.{laid-over}
-use Rattle.tablefiles.specs.declared.Told.{Told}
-use Rattle.tablefiles.specs.declared.Read.{Read}
 use Rattle.tablefiles.specs.declared.Kept.{Kept}
 use Rattle.tablefiles.specs.declared.Salvaged.{Salvaged}
 use Rattle.tablefiles.specs.Calls.{read_table, told_of, salvage, kept_of}
@@ -27,16 +26,21 @@ unfolding lent_rows_lem
 all_put rs ys p q = laid-over 128 rs (replicate 128 no_row) ys (length-replicate 128 no_row) p q
 
 -- ---- a read
-abbrev pub Reads : List ℕ → List Row → Told → List Row → Type 0
-Reads s ys r zs = (r ≡ told_of (read_table (length ys) s)) × (zs ≡ rows_left ys (read_table (length ys) s))
 
-by_answer : (ys : List Row) (o : Outcome (List Row)) → ((rs : List Row) → o ≡ given rs → (length rs ≤ 128) × (length rs ≤ length ys))
-    → ((read_of o).told ≡ told_of o) × (laid 128 (read_of o).rows.len (read_of o).rows.at ys ≡ rows_left ys o)
-by_answer ys (given rs) few = (refl, all_put rs ys (few rs refl).0 (few rs refl).1)
-by_answer ys (refused r) few = (refl, all_put [] ys (omega arith) (omega arith))
+-- a refusal writes no row
+pub read_refused : (s : List ℕ) (ys : List Row) (r : Refusal) → read_of (read_table (length ys) s) ≡ Err r
+    → (told_of (read_table (length ys) s) ≡ Err r) × (rows_left ys (read_table (length ys) s) ≡ ys)
+read_refused s ys r e = let p = apply_refuses lent_rows_lem (read_table (length ys) s) r e in (ap told_of p, ap (rows_left ys) p)
 
-pub read_follows : (s : List ℕ) (ys : List Row) (d : Read) → d ≡ read_of (read_table (length ys) s) → Reads s ys d.told (laid 128 d.rows.len d.rows.at ys)
-read_follows s ys d e = subst (λ (d' : Read). Reads s ys d'.told (laid 128 d'.rows.len d'.rows.at ys)) (sym e) (by_answer ys (read_table (length ys) s) (read_few (length ys) s))
+pub read_follows : (s : List ℕ) (ys : List Row) (rows : Rows) → read_of (read_table (length ys) s) ≡ Ok rows
+    → (Ok rows.len ≡ told_of (read_table (length ys) s)) × (laid 128 rows.len rows.at ys ≡ rows_left ys (read_table (length ys) s))
+unfolding lent_rows_lem
+read_follows s ys rows e =
+    let a = apply_answers lent_rows_lem (read_table (length ys) s) rows e in
+    let few = read_few (length ys) s a.answer a.is in (
+      ap (λ (x : Rows). Ok x.len) (sym a.made) ∙ ap told_of (sym a.is),
+      ap (λ (x : Rows). laid 128 x.len x.at ys) (sym a.made) ∙ all_put a.answer ys few.0 few.1 ∙ ap (rows_left ys) (sym a.is),
+    )
 
 -- ---- salvage
 abbrev pub Salvages : List ℕ → List Row → Kept → List Row → Type 0

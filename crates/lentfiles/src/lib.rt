@@ -7,8 +7,9 @@ ghost use Rattle.replies.specs.Held.{Replied};
 ghost use Rattle.tablefiles.specs.Calls.{write_table, read_table, told_of, salvage, kept_of};
 ghost use Rattle.lentfiles.specs.Calls.{rows_left};
 
+use exponents::refusals::Refusal;
 use replies::Reply;
-use tablefiles::{Kept, Told};
+use tablefiles::Kept;
 use units::Row;
 
 // A refused write writes no byte.
@@ -18,15 +19,14 @@ pub fn write_table(rows: &[Row], out: &mut [u8]) -> Reply
     tablefiles::write_table(lent::rows_of(rows), out)
 }
 
-// A refused read writes no row; rows past the count stay.
-pub fn read_table(file: &[u8], to: &mut [Row]) -> Told
+// How many rows are read. A refused read writes no row; rows past the count stay.
+#[tactic(auto, using(crate::proofs::Follows::read_refused))]
+pub fn read_table(file: &[u8], to: &mut [Row]) -> Result<usize, Refusal>
     ensures { (result ≡ told_of (read_table (length to.old) file.now)) × (to.new ≡ rows_left to.old (read_table (length to.old) file.now)) }
 {
-    let d = tablefiles::read_table(file, to.len());
-    let rows = d.rows;
-    let told = d.told;
+    let rows = tablefiles::read_table(file, to.len())?;
     lentwrites::put_rows(rows, rows.len, to);
-    told
+    Ok(rows.len)
 }
 
 // Salvage writes only the rows it keeps.
@@ -34,8 +34,6 @@ pub fn salvage_table(file: &[u8], to: &mut [Row]) -> Kept
     ensures { (result ≡ kept_of (salvage (length to.old) file.now)) × (to.new ≡ (salvage (length to.old) file.now).0 ++ drop (length (salvage (length to.old) file.now).0) to.old) }
 {
     let d = tablefiles::salvage_table(file, to.len());
-    let rows = d.rows;
-    let told = d.told;
-    lentwrites::put_rows(rows, rows.len, to);
-    told
+    lentwrites::put_rows(d.rows, d.rows.len, to);
+    d.told
 }

@@ -3,11 +3,10 @@
 
 ghost use Rattle.std.specs.Prelude.{◌≡◌};
 ghost use Rattle.lent.specs.Lent.{lent_rows_lem};
-ghost use Rattle.knotruns.specs.Held.{quotient_of};
 ghost use Rattle.knots.specs.Calls.{knots_in, span_quotient};
 ghost use Rattle.knots.specs.Held.{Vectored};
 
-use knotruns::{Quotient, Told};
+use exponents::refusals::Refusal;
 use knots::{Rule, Span};
 use units::Row;
 
@@ -18,14 +17,14 @@ pub fn knot_vector(
     rule: Rule,
     firsts: &mut [f64],
     times: &mut [u32],
-) -> Told
+) -> Result<usize, Refusal>
     ensures { Vectored (lent_rows_lem rows.now) knots.now rule result firsts.old firsts.new times.old times.new }
 {
     knots::knot_vector(lent::rows_of(rows), knots, rule, firsts, times)
 }
 
-pub fn span_quotient(rows: &[Row], knots: &[u8], span: Span) -> Quotient
-    ensures { result ≡ quotient_of (span_quotient (lent_rows_lem rows.now) (knots_in knots.now) span) }
+pub fn span_quotient(rows: &[Row], knots: &[u8], span: Span) -> Result<f64, Refusal>
+    ensures { result ≡ span_quotient (lent_rows_lem rows.now) (knots_in knots.now) span }
 {
     knots::span_quotient(lent::rows_of(rows), knots, span)
 }

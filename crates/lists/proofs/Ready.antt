@@ -6,8 +6,9 @@ use native.Mathlib.Omega.{arith}
 use lib.IntN.{ℤ}
 use lib.ListN.{length, length-take}
 use Rattle.exponents.specs.Words.{All}
-use Rattle.exponents.specs.Outcome.{Outcome, given, refused, apply, bind, refusal_of}
-use Rattle.exponents.proofs.Numbers.{number-pos, Refuses, struct_refuses}
+use Rattle.exponents.specs.Outcome.{Refusal, Outcome, Ok, Err, apply, bind, tested}
+use Rattle.exponents.proofs.Holds.{one_answer}
+use Rattle.exponents.proofs.Numbers.{clash, apply_refuses}
 use Rattle.units.specs.declared.Factor.{Factor}
 use Rattle.units.specs.declared.Factors.{Factors}
 use Rattle.units.specs.declared.Rows.{Rows}
@@ -29,8 +30,8 @@ pub record Ready (t : Rows) (a b : Factors) (x : Opened) : Type 0 where
   pub ks : List Facts
   pub fs : List Factor
   pub gs : List Factor
-  pub known : table t ≡ given ks
-  pub opened : opening t a b ≡ given (lay ks (fs, gs))
+  pub known : table t ≡ Ok ks
+  pub opened : opening t a b ≡ Ok (lay ks (fs, gs))
   pub slots : x.slots ≡ pack_slots (base_rows t)
   pub first : Resolved (view_of ks (fs ++ gs)) x.a fs
   pub second : Resolved (view_of ks (fs ++ gs)) x.b gs
@@ -40,39 +41,39 @@ pub record Ready (t : Rows) (a b : Factors) (x : Opened) : Type 0 where
 
 record Passed (t : Rows) (a b : Factors) : Type 0 where
   ks : List Facts
-  known : table t ≡ given ks
-  lists : refusal_of (both (length ks) a b) ≡ 0
+  known : table t ≡ Ok ks
+  lists : Ok tt ≡ tested (both (length ks) a b)
 
-both_passed : (ss : List Slot) (ks : List Facts) (o : Outcome Pair) (x : Opened) → x ≡ opened_of ss (apply (lay ks) o) → x.refusal ≡ 0 → refusal_of o ≡ 0
-both_passed ss ks (given p) x e h = refl
-both_passed ss ks (refused r) x e h = absurd (omega (arith, number-pos r, ap (λ (y : Opened). y.refusal) e))
+both_passed : (ss : List Slot) (ks : List Facts) (o : Outcome Pair) (x : Opened) → Ok x ≡ opened_of ss (apply (lay ks) o) → Ok tt ≡ tested o
+both_passed ss ks (Ok p) x e = refl
+both_passed ss ks (Err r) x e = absurd (clash e)
 
-passed : (t : Rows) (a b : Factors) (x : Opened) → x ≡ opened_of (base_rows t) (opening t a b) → x.refusal ≡ 0 → Passed t a b
+passed : (t : Rows) (a b : Factors) (x : Opened) → Ok x ≡ opened_of (base_rows t) (opening t a b) → Passed t a b
 unfolding opening bind
-passed t a b x e h = go (table t) refl e
+passed t a b x e = go (table t) refl e
   where
-    go : (k : Outcome (List Facts)) → table t ≡ k → x ≡ opened_of (base_rows t) (bind k (λ ks. apply (lay ks) (both (length ks) a b))) → Passed t a b
-    go (given ks) k w = record { ks = ks; known = k; lists = both_passed (base_rows t) ks (both (length ks) a b) x w h }
-    go (refused r) k w = absurd (omega (arith, h, number-pos r, ap (λ (y : Opened). y.refusal) w))
+    go : (k : Outcome (List Facts)) → table t ≡ k → Ok x ≡ opened_of (base_rows t) (bind k (λ ks. apply (lay ks) (both (length ks) a b))) → Passed t a b
+    go (Ok ks) k w = record { ks = ks; known = k; lists = both_passed (base_rows t) ks (both (length ks) a b) x w }
+    go (Err r) k w = absurd (clash w)
 
 -- a list that passes is resolved
 few_taken : (l : Factors) → l.len ≤ 16 → length (list_of l) ≤ 16
 few_taken l h = simp length-take (omega arith)
 
-resolved : (ks : List Facts) (among : List Factor) (a : Factors) (l : Items) → refusal_of (checked (length ks) a) ≡ 0 → All (λ f. Stands f.row among) (list_of a) → l ≡ pack_items (view_of ks among) (list_of a) → Resolved (view_of ks among) l (list_of a)
+resolved : (ks : List Facts) (among : List Factor) (a : Factors) (l : Items) → Ok tt ≡ tested (checked (length ks) a) → All (λ f. Stands f.row among) (list_of a) → l ≡ pack_items (view_of ks among) (list_of a) → Resolved (view_of ks among) l (list_of a)
 resolved ks among a l h n e = record { is = e; short = few_taken a (short (length ks) a h); shaped = no_fault (length ks) a h; named = n; placed = view_placed ks among }
 
 -- ---- what a call learns
 
-module _ (t : Rows) (a b : Factors) (x : Opened) (e : x ≡ opened_of (base_rows t) (opening t a b)) where
-  pub ready : x.refusal ≡ 0 → Ready t a b x
-  ready h =
-      let p = passed t a b x e h in
+module _ (t : Rows) (a b : Factors) where
+  pub ready : (x : Opened) → Ok x ≡ opened_of (base_rows t) (opening t a b) → Ready t a b x
+  ready x e =
+      let p = passed t a b x e in
       let fs = list_of a in
       let gs = list_of b in
       let n = length p.ks in
-      let o : opening t a b ≡ given (lay p.ks (fs, gs)) = sym (lists-next t a b p.ks p.known) ∙ ap (apply (lay p.ks)) (both_pass n a b p.lists) in
-      let q = e ∙ ap (opened_of (base_rows t)) o in
+      let o : opening t a b ≡ Ok (lay p.ks (fs, gs)) = sym (lists-next t a b p.ks p.known) ∙ ap (apply (lay p.ks)) (both_pass n a b p.lists) in
+      let q = one_answer (e ∙ ap (opened_of (base_rows t)) o) in
       let slots = ap (λ (y : Opened). y.slots) q in
       record {
         ks = p.ks;
@@ -87,8 +88,8 @@ module _ (t : Rows) (a b : Factors) (x : Opened) (e : x ≡ opened_of (base_rows
       }
 
   -- the call whose own work is W refuses as the opening did
-  pub stopped : {A : Type 0} (W : List Facts → List Factor → List Factor → Outcome A) → (x.refusal ≡ 0 → ⊥) → Refuses (Call t a b W) x.refusal
-  stopped W h = call_refuses t a b W x.refusal (struct_refuses (opened_of (base_rows t)) (λ (y : Opened). y.refusal) (λ p. refl) (λ r. refl) (opening t a b) x e h)
+  pub stopped : {A : Type 0} (W : List Facts → List Factor → List Factor → Outcome A) (r : Refusal) → Err r ≡ opened_of (base_rows t) (opening t a b) → Call t a b W ≡ Err r
+  stopped W r e = call_refuses t a b W r (apply_refuses _ (opening t a b) r (sym e))
 
 module _ {t : Rows} {a b : Factors} {x : Opened} (r : Ready t a b x) where
   abbrev pub seen : View
@@ -103,5 +104,5 @@ module _ {t : Rows} {a b : Factors} {x : Opened} (r : Ready t a b x) where
   lends nums dens tells = subst (λ n. Lends seen n nums dens) (sym (slots_len x.slots (base_rows t) r.slots)) (tells r.ks r.known (r.fs ++ r.gs))
 
 -- a call on one list opens the empty one beside it
-pub beside : {t : Rows} {a b c : Factors} {x : Opened} {nums : List ℤ} {dens : List ℕ} → b ≡ c → Opens t a b x nums dens → Opens t a c x nums dens
+pub beside : {t : Rows} {a b c : Factors} {x : Outcome Opened} {nums : List ℤ} {dens : List ℕ} → b ≡ c → Opens t a b x nums dens → Opens t a c x nums dens
 beside {t} {a} {b} {c} {x} {nums} {dens} e o = subst (λ b. Opens t a b x nums dens) e o

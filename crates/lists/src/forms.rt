@@ -3,62 +3,45 @@ ghost use Rattle.std.specs.Prelude.{◌≡◌, []};
 ghost use Rattle.units.specs.declared.Factors.{Factors as Factorsᵛ};
 ghost use Rattle.units.specs.declared.Rows.{Rows as Rowsᵛ};
 ghost use Rattle.units.specs.Lists.{pack, made_of};
-ghost use Rattle.canonical.specs.Equality.{verdict_of};
 ghost use Rattle.tables.specs.Rows.{base_rows};
 ghost use Rattle.lists.specs.Held.{opening, opened_of};
 ghost use Rattle.lists.specs.Calls as spec;
 ghost use Rattle.lists.specs.Calls.{same_lists};
 
 use super::opening::Opened;
-use canonical::equality::Verdict;
-use units::lists::Made;
+use exponents::refusals::Refusal;
+use tables::pages::Columns;
 use units::{Factors, Rows};
 
-pub fn canonical_over(o: Opened) -> Made
+pub fn canonical_over(o: Result<Opened, Refusal>) -> Result<Factors, Refusal>
     ensures { (rows : Rowsᵛ) (l : Factorsᵛ) → o ≡ opened_of (base_rows rows) (opening rows l (pack [])) → result ≡ made_of (spec.canonical rows l) }
 {
-    if o.refusal != 0 {
-        return units::lists::refused(o.refusal);
-    }
-    let a = o.a;
-    let c = canonical::form::canonical(a);
-    if c.refusal != 0 {
-        return units::lists::refused(c.refusal);
-    }
-    let x = c.list;
-    let unit = super::opening::factors_of(x);
-    Made {
-        unit: unit,
-        refusal: 0,
-    }
+    let o = o?;
+    let c = canonical::form::canonical(o.a)?;
+    Ok(super::opening::factors_of(c))
 }
 
-pub fn canonical(rows: Rows, l: Factors) -> Made
+#[tactic(auto, using(crate::proofs::Ready::beside))]
+pub fn canonical(rows: Rows, l: Factors) -> Result<Factors, Refusal>
     ensures { result ≡ made_of (spec.canonical rows l) }
 {
-    let mut nums = [0i32; 2048];
-    let mut dens = [1u32; 2048];
+    let mut columns = Columns::blank();
     let none = units::lists::empty();
-    let o = super::opening::open_lists(rows, l, none, &mut nums, &mut dens);
+    let o = super::opening::open_lists(rows, l, none, &mut columns);
     canonical_over(o)
 }
 
-pub fn same_list_over(o: Opened) -> Verdict
-    ensures { (rows : Rowsᵛ) (a b : Factorsᵛ) → o ≡ opened_of (base_rows rows) (opening rows a b) → result ≡ verdict_of (same_lists rows a b) }
+pub fn same_list_over(o: Result<Opened, Refusal>) -> Result<bool, Refusal>
+    ensures { (rows : Rowsᵛ) (a b : Factorsᵛ) → o ≡ opened_of (base_rows rows) (opening rows a b) → result ≡ same_lists rows a b }
 {
-    if o.refusal != 0 {
-        return Verdict::Refused(o.refusal);
-    }
-    let x = o.a;
-    let y = o.b;
-    canonical::equality::equal(x, y)
+    let o = o?;
+    canonical::equality::equal(o.a, o.b)
 }
 
-pub fn same_list(rows: Rows, a: Factors, b: Factors) -> Verdict
-    ensures { result ≡ verdict_of (same_lists rows a b) }
+pub fn same_list(rows: Rows, a: Factors, b: Factors) -> Result<bool, Refusal>
+    ensures { result ≡ same_lists rows a b }
 {
-    let mut nums = [0i32; 2048];
-    let mut dens = [1u32; 2048];
-    let o = super::opening::open_lists(rows, a, b, &mut nums, &mut dens);
+    let mut columns = Columns::blank();
+    let o = super::opening::open_lists(rows, a, b, &mut columns);
     same_list_over(o)
 }

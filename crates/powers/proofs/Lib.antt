@@ -1,3 +1,2 @@
 pub mod WholeNumbers
 pub mod WholeParts
-pub mod Raising

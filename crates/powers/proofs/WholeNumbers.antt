@@ -5,29 +5,27 @@ use lib.Signed.{mag}
 use lib.Ieee.{Float, nan, inf, fin, of_bits, le, lt, up, down, to_signed}
 use lib.Ieee.Fits.{down_pos}
 use Rattle.exponents.proofs.Size.{mag_neg}
-use Rattle.exponents.specs.Outcome.{unless}
-use Rattle.powers.specs.declared.whole.Whole.TheVariants.{Number, Refused}
+use Rattle.exponents.specs.Outcome.{Ok, Err, NONWHOLE, RANGE, unless}
 use Rattle.powers.specs.Whole.{most, least, is_whole, is_beyond, whole_exponent}
-use Rattle.powers.specs.Held.{whole_of}
 
 -- ---- how the code ends
 module _ (x : Float) where
-  pub not_whole : is_whole x ≡ false → Refused 10 ≡ whole_of (whole_exponent x)
+  pub not_whole : is_whole x ≡ false → Err NONWHOLE ≡ whole_exponent x
   unfolding whole_exponent unless
   not_whole w = rw w
 
   module _ (w : is_whole x ≡ true) where
-    pub too_great : le x most ≡ false → Refused 5 ≡ whole_of (whole_exponent x)
+    pub too_great : le x most ≡ false → Err RANGE ≡ whole_exponent x
     unfolding whole_exponent is_beyond unless
     too_great h = rw (w, h)
 
-    pub too_small : le x most ≡ true → le least x ≡ false → Refused 5 ≡ whole_of (whole_exponent x)
+    pub too_small : le x most ≡ true → le least x ≡ false → Err RANGE ≡ whole_exponent x
     unfolding whole_exponent is_beyond unless
     too_small h g = rw (w, h, g)
 
-    pub whole-number : le x most ≡ true → le least x ≡ true → (n : ℤ) → n ≡ to_signed 63 x → Number n ≡ whole_of (whole_exponent x)
+    pub whole-number : le x most ≡ true → le least x ≡ true → (n : ℤ) → n ≡ to_signed 63 x → Ok n ≡ whole_exponent x
     unfolding whole_exponent is_beyond unless
-    whole-number h g n e = rw (w, h, g) (ap Number e)
+    whole-number h g n e = rw (w, h, g) (ap Ok e)
 
 -- ---- a value between the ends
 

@@ -1,4 +1,3 @@
 pub mod Whole
 pub mod Powers
 pub mod Calls
-pub mod Held

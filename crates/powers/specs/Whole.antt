@@ -2,7 +2,7 @@
 use Rattle.std.specs.Prelude.{Bool, not, ◌||◌, ℤ, from_bits, Float}
 use Rattle.std.specs.Float.{binary64}
 use Rattle.std.specs.Float.Ieee.{rem, eq, le, to_signed}
-use Rattle.exponents.specs.Outcome.{Outcome, given, NONWHOLE, RANGE, unless}
+use Rattle.exponents.specs.Outcome.{Outcome, Ok, NONWHOLE, RANGE, unless}
 use Rattle.floats.specs.Power.{one}
 
 abbrev pub zero : Float
@@ -23,4 +23,4 @@ unfoldable pub is_beyond : Float → Bool
 is_beyond x = not (le x most) || not (le least x)
 
 unfoldable pub whole_exponent : Float → Outcome ℤ
-whole_exponent x = unless (not (is_whole x)) NONWHOLE (unless (is_beyond x) RANGE (given (to_signed 63 x)))
+whole_exponent x = unless (not (is_whole x)) NONWHOLE (unless (is_beyond x) RANGE (Ok (to_signed 63 x)))

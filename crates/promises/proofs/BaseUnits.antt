@@ -10,7 +10,7 @@ use lib.IntN.{ℤ, pos}
 use lib.ListN.{length, get_or, take}
 use borrow.Author.Tests.{ltb-true, ltb-false, eqb-false, eq-eqb, ne_eqb}
 use Rattle.exponents.specs.Words.{pick, All}
-use Rattle.exponents.specs.Outcome.{given, bind, each}
+use Rattle.exponents.specs.Outcome.{Ok, bind, each}
 use Rattle.exponents.specs.Fractions.{nought, unit, add?, mul?, sum?}
 use Rattle.exponents.specs.Held.{worked}
 use Rattle.exponents.specs.declared.Exponent.{Exponent}
@@ -207,23 +207,23 @@ module _ (t : Rows) (ks : List Facts) (a : admit t ≡ admitted ks) (d : Row) wh
 -- ---- base exponents of one base row: 1 at itself, 0 at the others
 
 -- 1 · x, added to 0, is x
-once : (b : Bool) → bind (mul? unit (pick b unit nought)) (λ x. bind (add? nought x) (λ u. given u)) ≡ given (pick b unit nought)
+once : (b : Bool) → bind (mul? unit (pick b unit nought)) (λ x. bind (add? nought x) (λ u. Ok u)) ≡ Ok (pick b unit nought)
 unfolding worked
 once true = refl
 once false = refl
 
 module _ (f : Factor) (e : f.exponent ≡ unit) where
   -- at the base row s
-  base_once : (b : ℕ → Exponent) (s : Slot) → b f.row ≡ self_exp f.row s → base_at (f ∷ []) b ≡ given (self_exp f.row s)
+  base_once : (b : ℕ → Exponent) (s : Slot) → b f.row ≡ self_exp f.row s → base_at (f ∷ []) b ≡ Ok (self_exp f.row s)
   unfolding base_at sum?
   base_once b s h = rw (e, h) (once (eqb s.row f.row))
 
-  bases_once : (g : ℕ → ℕ → Exponent) (p : ℕ) (ss : List Slot) → ((j : ℕ) → j < length ss → g (p + j) f.row ≡ self_exp f.row (get_or ss j no_slot)) → each (base_at (f ∷ [])) (map g (places p (length ss))) ≡ given (map (self_exp f.row) ss)
+  bases_once : (g : ℕ → ℕ → Exponent) (p : ℕ) (ss : List Slot) → ((j : ℕ) → j < length ss → g (p + j) f.row ≡ self_exp f.row (get_or ss j no_slot)) → each (base_at (f ∷ [])) (map g (places p (length ss))) ≡ Ok (map (self_exp f.row) ss)
   unfolding each places
   bases_once g p [] h = refl
   bases_once g p (s ∷ ss) h =
       let first : g p f.row ≡ self_exp f.row s = let z : p + 0 ≡ p = omega arith in subst (λ n. g n f.row ≡ self_exp f.row s) z (h 0 (omega arith)) in
-      let others : each (base_at (f ∷ [])) (map g (places (suc p) (length ss))) ≡ given (map (self_exp f.row) ss) = bases_once g (suc p) ss (λ j q. let z : p + suc j ≡ suc p + j = omega arith in subst (λ n. g n f.row ≡ self_exp f.row (get_or ss j no_slot)) z (h (suc j) (omega arith))) in
+      let others : each (base_at (f ∷ [])) (map g (places (suc p) (length ss))) ≡ Ok (map (self_exp f.row) ss) = bases_once g (suc p) ss (λ j q. let z : p + suc j ≡ suc p + j = omega arith in subst (λ n. g n f.row ≡ self_exp f.row (get_or ss j no_slot)) z (h (suc j) (omega arith))) in
       rw (base_once (g p) s first, others) (bind_given _ refl)
 
 unit-nought : unit ≡ nought → ⊥
@@ -249,7 +249,7 @@ module _ (t : Rows) (ks : List Facts) (a : admit t ≡ admitted ks) (d : Row) wh
   BaseUnit f = (f.row < length (rows_of t)) × ((get_or (rows_of t) f.row d).kind ≡ Base) × (f.exponent ≡ unit)
 
   -- it has 1 at itself, 0 at the others
-  pub base-unit_has : (f : Factor) → BaseUnit f → base (rules_in t ks).bases (f ∷ []) ≡ given (map (self_exp f.row) (base_rows t))
+  pub base-unit_has : (f : Factor) → BaseUnit f → base (rules_in t ks).bases (f ∷ []) ≡ Ok (map (self_exp f.row) (base_rows t))
   unfolding base exp_at
   base-unit_has f u =
       bases_once f u.2 (exp_at ks) 0 (base_rows t) λ j h.
@@ -259,11 +259,11 @@ module _ (t : Rows) (ks : List Facts) (a : admit t ≡ admitted ks) (d : Row) wh
       ∙ get_map (self_exp f.row) (base_rows t) j no_slot nought h)
 
   -- the scalar has 0 at all
-  pub scalar_has : base (rules_in t ks).bases [] ≡ given (map (λ _. nought) (base_rows t))
+  pub scalar_has : base (rules_in t ks).bases [] ≡ Ok (map (λ _. nought) (base_rows t))
   unfolding base base_at sum? each places
   scalar_has = go 0 (base_rows t)
     where
-      go : (p : ℕ) (ss : List Slot) → each (λ _. given nought) (map (exp_at ks) (places p (length ss))) ≡ given (map (λ _. nought) ss)
+      go : (p : ℕ) (ss : List Slot) → each (λ _. Ok nought) (map (exp_at ks) (places p (length ss))) ≡ Ok (map (λ _. nought) ss)
       go p [] = refl
       go p (s ∷ ss) = rw (go (suc p) ss) (bind_given _ refl)
 

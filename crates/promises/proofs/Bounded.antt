@@ -7,7 +7,7 @@ use native.Mathlib.Omega.{arith}
 use borrow.Author.Tests.{ltb-false}
 use lib.ListN.{length, length-append}
 use Rattle.exponents.specs.Words.{pick, All}
-use Rattle.exponents.specs.Outcome.{Outcome, given, ROOM, SHAPE, bind, each}
+use Rattle.exponents.specs.Outcome.{Outcome, Ok, ROOM, SHAPE, bind, each}
 use Rattle.exponents.specs.Fractions.{faulty}
 use Rattle.exponents.specs.declared.Exponent.{Exponent}
 use Rattle.exponents.proofs.Holds.{holds_all, Holds, held, take_out, holds_eq, holds_imp, holds_unless, holds_map, holds_bind}
@@ -85,7 +85,7 @@ raised_bounds e n (f ∷ l) h =
 module _ (t : Rows) where
   -- ---- the lists of a call
 
-  module _ (ks : List Facts) (k : table t ≡ given ks) where
+  module _ (ks : List Facts) (k : table t ≡ Ok ks) where
     pub checked_bounds : (l : Factors) → Holds Bounds (checked (length ks) l)
     checked_bounds l = holds_imp (checked_passed (length ks) l) λ fs h. (h.0, all_imp fs (passes_bounded (length ks) (admit_keyed t ks (admits t ks k)).few) h.1)
 
@@ -94,11 +94,11 @@ module _ (t : Rows) where
     both_bounds a b = holds_bind _ (checked_bounds a) λ fs h. holds_map _ (checked_bounds b) λ gs j. (h, j)
 
     -- the base factors pass that check
-    pub reduced_bounds : (l : List Factor) (es : List Exponent) → base (rules_in t ks).bases l ≡ given es → Bounds (reduced (base_rows t) es)
+    pub reduced_bounds : (l : List Factor) (es : List Exponent) → base (rules_in t ks).bases l ≡ Ok es → Bounds (reduced (base_rows t) es)
     reduced_bounds l es e = take_out (checked_bounds (pack (reduced (base_rows t) es))) (base_list_checked t es ks (rules_in t ks).bases l (admits t ks k) e)
 
   module _ {A : Type 0} {P : A → Type 0} where
-    pub of_one : (l : Factors) (W : List Facts → List Factor → Outcome A) → ((ks : List Facts) → table t ≡ given ks → (fs : List Factor) → Bounds fs → Holds P (W ks fs))
+    pub of_one : (l : Factors) (W : List Facts → List Factor → Outcome A) → ((ks : List Facts) → table t ≡ Ok ks → (fs : List Factor) → Bounds fs → Holds P (W ks fs))
         → Holds P (bind (table t) (λ ks. bind (checked (length ks) l) (W ks)))
     of_one l W h = holds_bind _ (holds_eq (table t)) λ ks k. holds_bind _ (checked_bounds ks k l) (h ks k)
 

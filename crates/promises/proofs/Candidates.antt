@@ -5,7 +5,7 @@ use mathlib.Core.List.{List, [], ◌∷◌}
 use Prim.Native.Nat.{ℕ, suc}
 use lib.ListN.{length, take}
 use Rattle.exponents.specs.Words.{pick}
-use Rattle.exponents.specs.Outcome.{FRACTION, Refusal, SHAPE, UNKNOWN, UNITS, given, refused, apply, bind}
+use Rattle.exponents.specs.Outcome.{FRACTION, Refusal, SHAPE, UNKNOWN, UNITS, Ok, Err, apply, bind}
 use Rattle.exponents.proofs.Holds.{Holds, Only, fine, only_unless, holds_any, holds_imp, holds_map, holds_bind, only_map, only_bind, bind_given}
 use Rattle.exponents.proofs.Halves.{OutOfRange}
 use Rattle.exponents.proofs.Rationals.{value}
@@ -43,9 +43,9 @@ module _ (S : Refusal → Type 0) (shape : S SHAPE) (un : S UNKNOWN) (rows : ℕ
   candidates_only c = only_unless _ SHAPE shape (lists_only 0 (take c.len c.at))
 
 -- q is a quantity of the admitted table t, fs its list
-module _ (t : Rows) (ks : List Facts) (k : table t ≡ given ks) (q : Quantity) (fs : List Factor) (h : checked (length ks) q.unit ≡ given fs) (c : Candidates) where
+module _ (t : Rows) (ks : List Facts) (k : table t ≡ Ok ks) (q : Quantity) (fs : List Factor) (h : checked (length ks) q.unit ≡ Ok fs) (c : Candidates) where
   goes : full_simplify_with t q c ≡ bind (candidate_lists (length ks) c) (λ ms.
-      pick q.mark (apply quantity_of (bind (simplify (rules_in t ks) q.value fs) (registered (rules_in t ks) (base_rows t) ms))) (given (made false q.value fs)))
+      pick q.mark (apply quantity_of (bind (simplify (rules_in t ks) q.value fs) (registered (rules_in t ks) (base_rows t) ms))) (Ok (made false q.value fs)))
   unfolding full_simplify_with
   goes = bind_given _ k ∙ bind_given _ h
 
@@ -60,7 +60,7 @@ module _ (t : Rows) (ks : List Facts) (k : table t ≡ given ks) (q : Quantity) 
       (same t ks k q fs h))
 
   -- THEOREM: with candidates that are taken it answers, or is refused by what leaves the range or by FRACTION
-  pub refuses : (ms : List (List Factor)) → candidate_lists (length ks) c ≡ given ms → (S : Refusal → Type 0) → ((r : Refusal) → OutOfRange r → S r) → S FRACTION → Only S (full_simplify_with t q c)
+  pub refuses : (ms : List (List Factor)) → candidate_lists (length ks) c ≡ Ok ms → (S : Refusal → Type 0) → ((r : Refusal) → OutOfRange r → S r) → S FRACTION → Only S (full_simplify_with t q c)
   refuses ms e S range fraction =
       subst (λ o. Only S o) (sym (goes ∙ bind_given _ e))
       (either_only S q.mark (only_map _ (only_bind _ _ (simplify_only_in t ks k q.unit fs h q.value S range fraction) λ a _. registered_only t ks k ms a S range fraction)) fine)
@@ -75,5 +75,5 @@ module _ (t : Rows) (q : Quantity) (c : Candidates) where
       only_bind (candidate_lists (length ks) c) _ (candidates_only NotUnits shape_not_units unknown_not_units (length ks) c) λ ms _.
       either_only NotUnits q.mark (only_map _ (only_bind _ _ (simplify_only_in t ks k q.unit fs h q.value NotUnits range_not_units fraction_not_units) λ a _. registered_only t ks k ms a NotUnits range_not_units fraction_not_units)) fine
 
-  pub never_units : full_simplify_with t q c ≡ refused UNITS → ⊥
+  pub never_units : full_simplify_with t q c ≡ Err UNITS → ⊥
   never_units e = never simplify_refuses e

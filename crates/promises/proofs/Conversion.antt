@@ -5,7 +5,7 @@ use mathlib.Core.Bool.{Bool, ◌||◌}
 use mathlib.Core.List.{List}
 use lib.Ieee.{Float, binary64, mul, div}
 use lib.ListN.{length}
-use Rattle.exponents.specs.Outcome.{Refusal, UNITS, Outcome, given, refused, apply}
+use Rattle.exponents.specs.Outcome.{Refusal, UNITS, Outcome, Ok, Err, apply}
 use Rattle.exponents.specs.declared.Exponent.{Exponent}
 use Rattle.exponents.proofs.Holds.{bind_given}
 use Rattle.exponents.proofs.Rationals.{value}
@@ -29,8 +29,8 @@ use Rattle.quantities.specs.Calls.{convert_with}
 use Rattle.halves.proofs.First.{through, apply_exactly}
 
 -- q is a quantity of the admitted table t and m a list of it; fs and gs are the two lists. `ready` is how the own list over the common factors is made ready: as it stands for `convert_to`, in canonical form for `convert_merged`.
-module _ (ready : Rules Float → List Factor → Outcome (List Factor)) (t : Rows) (ks : List Facts) (k : table t ≡ given ks) (K : Ready value (ready (rules_in t ks)))
-    (q : Quantity) (m : Factors) (fs gs : List Factor) (h : both (length ks) q.unit m ≡ given (fs, gs)) where
+module _ (ready : Rules Float → List Factor → Outcome (List Factor)) (t : Rows) (ks : List Facts) (k : table t ≡ Ok ks) (K : Ready value (ready (rules_in t ks)))
+    (q : Quantity) (m : Factors) (fs gs : List Factor) (h : both (length ks) q.unit m ≡ Ok (fs, gs)) where
   abbrev pub in_target : Float → Quantity
   in_target v = fresh v gs
 
@@ -61,17 +61,17 @@ module _ (ready : Rules Float → List Factor → Outcome (List Factor)) (t : Ro
   pub converts : (c : Case) → call ≡ apply in_target (cases.answer rules value (ready rules) c)
   converts c = goes ∙ ap (apply in_target) (laws.faithful rules value (order_in_total ks) (ready rules) K fs gs q.value c)
 
-  refuses : (r : Refusal) → (call ≡ refused r) ↔ (work ≡ refused r)
+  refuses : (r : Refusal) → (call ≡ Err r) ↔ (work ≡ Err r)
   refuses r = through (λ e. sym goes ∙ e, λ e. goes ∙ e) (apply_exactly in_target work r)
 
   -- the value is nonzero, the lists are unequal, and all steps answer
   module _ {cl cm own l : List Factor} {x y : List Exponent} (s : cases.Reduced rules value (ready rules) fs gs q.value cl cm own x l y) where
     -- UNITS exactly where the base exponents of the two lists differ
-    pub units_exactly : (call ≡ refused UNITS) ↔ (Agree value rules.bases fs gs → ⊥)
+    pub units_exactly : (call ≡ Err UNITS) ↔ (Agree value rules.bases fs gs → ⊥)
     units_exactly = through (refuses UNITS) (laws.units_exactly rules value (order_in_total ks) (ready rules) K fs gs q.value s)
 
     -- the value times own scale, divided by target scale
-    pub scaled_value : Agree value rules.bases fs gs → (a b : Float) → scale_by rules own ≡ given a → scale_by rules l ≡ given b → call ≡ given (in_target (div binary64 (mul binary64 q.value a) b))
+    pub scaled_value : Agree value rules.bases fs gs → (a b : Float) → scale_by rules own ≡ Ok a → scale_by rules l ≡ Ok b → call ≡ Ok (in_target (div binary64 (mul binary64 q.value a) b))
     scaled_value g a b p r = converts (cases.value s g) ∙ ap (apply in_target) (bind_given _ p ∙ ap (apply (λ u. div binary64 (mul binary64 q.value a) u)) r)
 
     mapped : {b : Bool} {o : Outcome Float} → Fraction b o → Fraction b (apply in_target o)

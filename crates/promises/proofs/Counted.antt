@@ -4,7 +4,7 @@ use mathlib.Core.List.{List}
 use Prim.Native.Nat.{ℕ, ◌≤◌}
 use native.Mathlib.Omega.{arith}
 use lib.ListN.{length}
-use Rattle.exponents.specs.Outcome.{Outcome, given, refused, apply}
+use Rattle.exponents.specs.Outcome.{Outcome, Ok, Err, apply}
 use Rattle.exponents.proofs.Holds.{Holds, take_out, holds_by, holds_imp}
 use Rattle.units.specs.declared.Factors.{Factors}
 use Rattle.units.specs.declared.Quantity.{Quantity}
@@ -24,7 +24,7 @@ use Rattle.demsharin.specs.Exports.{Exported}
 use Rattle.promises.specs.Shipped.{counted_in, counted_from}
 use Rattle.promises.proofs.Rounded.{ValueFits}
 use Rattle.promises.proofs.Fitting.{convert_fits, merged-fits, read_fits}
-use Rattle.promises.proofs.Shipped.{heard_answer, heard_refusal, from_room}
+use Rattle.promises.proofs.Shipped.{from_room}
 
 -- ---- a quantity and its count in bytes
 
@@ -38,7 +38,7 @@ counted_form = form.told (then quantity_form (then (number_form 4) (number_form 
 
 -- ---- every answer fits them: its quantity is the uncounted call's, and its count is within the bound
 
-fitted : (o : Outcome (Quantity × ℕ)) (u : Outcome Quantity) → quantity_of o ≡ u → Holds QuantityFits u → ((p : Quantity × ℕ) → o ≡ given p → p.1 ≤ 3744) → Holds CountedFits o
+fitted : (o : Outcome (Quantity × ℕ)) (u : Outcome Quantity) → quantity_of o ≡ u → Holds QuantityFits u → ((p : Quantity × ℕ) → o ≡ Ok p → p.1 ≤ 3744) → Holds CountedFits o
 fitted o u e h k = holds_by _ o λ p g. record { quantity = take_out h (sym e ∙ ap quantity_of g); count = k p g }
 
 module _ (t : Rows) (q : Quantity) (v : ValueFits q.value) (m : Factors) where
@@ -51,10 +51,10 @@ module _ (t : Rows) (q : Quantity) (v : ValueFits q.value) (m : Factors) where
 -- ---- over lent rows
 
 in_counted : (o : Outcome (Quantity × ℕ)) → counted_in (counted_of o) ≡ o
-in_counted (given p) = heard_answer p
-in_counted (refused r) = heard_refusal r _
+in_counted (Ok p) = refl
+in_counted (Err r) = refl
 
-module _ (rows : List Row) (q : Quantity) (m : Factors) (r : Counted) where
+module _ (rows : List Row) (q : Quantity) (m : Factors) (r : Outcome Counted) where
   -- THEOREM: what `convert_to_counted` hands over is the counted conversion, refusals included
   pub lent_convert : r ≡ counted_of (convert_to_counted (lent_rows_lem rows) q m) → counted_in r ≡ convert_to_counted (lent_rows_lem rows) q m
   lent_convert e = ap counted_in e ∙ in_counted (convert_to_counted (lent_rows_lem rows) q m)
@@ -80,7 +80,7 @@ module _ (room : List ℕ) (long : 344 ≤ length room) (n : ℕ) (end : List �
     exported_merged = in_room (convert_merged_counted (table_from tb) (quantity_from qb) (list_from lb)) (merged-counted-fits (table_from tb) (quantity_from qb) (read_fits qb) (list_from lb))
 
     -- so, in the room: no count passes its bound
-    pub exported_bounds : (p : Quantity × ℕ) → (Exported room (ask.convert_to_counted tb qb lb) n end → counted_from n end ≡ given p → p.1 ≤ 3744) × (Exported room (ask.convert_merged_counted tb qb lb) n end → counted_from n end ≡ given p → p.1 ≤ 2560)
+    pub exported_bounds : (p : Quantity × ℕ) → (Exported room (ask.convert_to_counted tb qb lb) n end → counted_from n end ≡ Ok p → p.1 ≤ 3744) × (Exported room (ask.convert_merged_counted tb qb lb) n end → counted_from n end ≡ Ok p → p.1 ≤ 2560)
     exported_bounds p =
         let b = bounds (table_from tb) (quantity_from qb) (list_from lb) p in
         (λ c e. b.0 (sym (exported_convert c) ∙ e), λ c e. b.1 (sym (exported_merged c) ∙ e))

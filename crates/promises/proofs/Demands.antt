@@ -10,7 +10,7 @@ use lib.Ieee.{Float, mul, div, lt}
 use lib.Ieee as ieee
 use lib.ListN.{length, get_or}
 use Rattle.exponents.specs.Words.{All}
-use Rattle.exponents.specs.Outcome.{Refusal, UNITS, FRACTION, Outcome, given, refused, apply, each}
+use Rattle.exponents.specs.Outcome.{Refusal, UNITS, FRACTION, Outcome, Ok, Err, apply, each}
 use Rattle.exponents.specs.Fractions.{faulty}
 use Rattle.exponents.specs.declared.Exponent.{Exponent}
 use Rattle.exponents.proofs.Holds.{one_answer, Holds, Only, take_out, bind_given}
@@ -64,7 +64,7 @@ use Rattle.promises.proofs.Simplification as simplification
 use Rattle.promises.proofs.WholeLists.{joined-sums, over-differences, raised-multiples, agree_is, is_agree}
 
 -- t is an admitted table, ks what is known of its rows
-module _ (t : Rows) (ks : List Facts) (k : table t ≡ given ks) where
+module _ (t : Rows) (ks : List Facts) (k : table t ≡ Ok ks) where
   -- ---- what the sentences speak of
 
   -- the table's rules
@@ -73,7 +73,7 @@ module _ (t : Rows) (ks : List Facts) (k : table t ≡ given ks) where
 
   -- the base exponents of a list, one for each base row in rank order, as 01 works them out
   abbrev pub Has : List Factor → List Exponent → Type 0
-  Has fs xs = base rules.bases fs ≡ given xs
+  Has fs xs = base rules.bases fs ≡ Ok xs
 
   -- two lists have the same base exponents: as exact fractions, also where a step on the way to them would leave the range
   abbrev pub SameBase : List Factor → List Factor → Type 0
@@ -88,7 +88,7 @@ module _ (t : Rows) (ks : List Facts) (k : table t ≡ given ks) where
   Scale fs = scale_by rules fs
 
   -- `reduce_list` shows them: those that aren't zero, as base factors
-  pub reduce_shows : (a : Factors) (fs : List Factor) (xs : List Exponent) (s : Float) → checked (length ks) a ≡ given fs → Has fs xs → Scale fs ≡ given s → lists.reduction t a ≡ given (reduced (base_rows t) xs, s)
+  pub reduce_shows : (a : Factors) (fs : List Factor) (xs : List Exponent) (s : Float) → checked (length ks) a ≡ Ok fs → Has fs xs → Scale fs ≡ Ok s → lists.reduction t a ≡ Ok (reduced (base_rows t) xs, s)
   unfolding lists.reduction reductions.reduction
   reduce_shows a fs xs s h p q = bind_given _ k ∙ bind_given _ h ∙ bind_given _ p ∙ rw q
 
@@ -96,39 +96,39 @@ module _ (t : Rows) (ks : List Facts) (k : table t ≡ given ks) where
 
   module _ (fs gs : List Factor) (xs ys zs : List Exponent) (p : Has fs xs) (q : Has gs ys) (room : Room fs gs) where
     module _ (r : Has (fs ++ gs) zs) where
-      pub product-sums : (a b : Factors) → both (length ks) a b ≡ given (fs, gs) → Answers (lists.product t a b) (λ l. Has l zs × (sums xs ys ≡ given zs))
+      pub product-sums : (a b : Factors) → both (length ks) a b ≡ Ok (fs, gs) → Answers (lists.product t a b) (λ l. Has l zs × (sums xs ys ≡ Ok zs))
       product-sums a b h = (fs ++ gs, joins t ks k a b fs gs h room, (r, joined-sums rules.bases fs gs xs ys zs p q r))
 
-      pub multiply_sums : (u v : Quantity) → both (length ks) u.unit v.unit ≡ given (fs, gs) → Answers (multiply t u v) (λ w. Has (list_of w.unit) zs × (sums xs ys ≡ given zs))
+      pub multiply_sums : (u v : Quantity) → both (length ks) u.unit v.unit ≡ Ok (fs, gs) → Answers (multiply t u v) (λ w. Has (list_of w.unit) zs × (sums xs ys ≡ Ok zs))
       multiply_sums u v h = (fresh _ (fs ++ gs), multiplies t ks k u v fs gs h room, (rw (list_pack (fs ++ gs)) r, joined-sums rules.bases fs gs xs ys zs p q r))
 
     module _ (r : Has (fs ++ along inverted gs) zs) where
-      pub quotient-differences : (a b : Factors) → both (length ks) a b ≡ given (fs, gs) → Answers (lists.quotient t a b) (λ l. Has l zs × (differences xs ys ≡ given zs))
+      pub quotient-differences : (a b : Factors) → both (length ks) a b ≡ Ok (fs, gs) → Answers (lists.quotient t a b) (λ l. Has l zs × (differences xs ys ≡ Ok zs))
       quotient-differences a b h = (fs ++ along inverted gs, divides_list t ks k a b fs gs h room, (r, over-differences rules.bases fs gs xs ys zs p q r))
 
-      pub divide_differences : (u v : Quantity) → both (length ks) u.unit v.unit ≡ given (fs, gs) → is_zero v.value ≡ false → Answers (checked_div t u v) (λ w. Has (list_of w.unit) zs × (differences xs ys ≡ given zs))
+      pub divide_differences : (u v : Quantity) → both (length ks) u.unit v.unit ≡ Ok (fs, gs) → is_zero v.value ≡ false → Answers (checked_div t u v) (λ w. Has (list_of w.unit) zs × (differences xs ys ≡ Ok zs))
       divide_differences u v h z = (fresh _ (fs ++ along inverted gs), divides t ks k u v fs gs h z room, (rw (list_pack (fs ++ along inverted gs)) r, over-differences rules.bases fs gs xs ys zs p q r))
 
   module _ (fs l : List Factor) (xs zs : List Exponent) (p : Has fs xs) (r : Has l zs) where
     -- `list_power` by any exponent e
-    pub power-multiples : (e : Exponent) → faulty e ≡ false → each (raised e) fs ≡ given l → (a : Factors) → checked (length ks) a ≡ given fs → Answers (lists.list_power t a e) (λ m. Has m zs × (multiples e xs ≡ given zs))
+    pub power-multiples : (e : Exponent) → faulty e ≡ false → each (raised e) fs ≡ Ok l → (a : Factors) → checked (length ks) a ≡ Ok fs → Answers (lists.list_power t a e) (λ m. Has m zs × (multiples e xs ≡ Ok zs))
     power-multiples e s g a h = (l, powers_list t ks k a fs l e h s g, (r, raised-multiples rules.bases e fs l xs zs (sound e s).0.some g p r))
 
     -- `checked_power` by a quantity that converts to the scalar x, the whole number n
-    pub checked-power-multiples : (n : ℤ) → each (raised (over1 n)) fs ≡ given l → (u v : Quantity) (gs : List Factor) → both (length ks) u.unit v.unit ≡ given (fs, gs) →
-        (x : Float) → convert rules gs [] v.value ≡ given x → (is_zero u.value && lt x zero) ≡ false → whole_exponent x ≡ given n → Answers (checked_power t u v) (λ w. Has (list_of w.unit) zs × (multiples (over1 n) xs ≡ given zs))
+    pub checked-power-multiples : (n : ℤ) → each (raised (over1 n)) fs ≡ Ok l → (u v : Quantity) (gs : List Factor) → both (length ks) u.unit v.unit ≡ Ok (fs, gs) →
+        (x : Float) → convert rules gs [] v.value ≡ Ok x → (is_zero u.value && lt x zero) ≡ false → whole_exponent x ≡ Ok n → Answers (checked_power t u v) (λ w. Has (list_of w.unit) zs × (multiples (over1 n) xs ≡ Ok zs))
     checked-power-multiples n g u v gs h x cx z cn =
         (fresh _ l, raises t ks k u v fs gs h x n l cx z cn g, (rw (list_pack l) r, raised-multiples rules.bases (over1 n) fs l xs zs (omega arith) g p r))
 
   -- ---- "putting a unit in canonical form, or a definition in place of its unit, changes none"
 
-  pub canonical_same : (a : Factors) (fs c : List Factor) (xs ys : List Exponent) → checked (length ks) a ≡ given fs → canon rules.order fs ≡ given c → Has fs xs → Has c ys → Answers (lists.canonical t a) (λ m. Has m xs)
+  pub canonical_same : (a : Factors) (fs c : List Factor) (xs ys : List Exponent) → checked (length ks) a ≡ Ok fs → canon rules.order fs ≡ Ok c → Has fs xs → Has c ys → Answers (lists.canonical t a) (λ m. Has m xs)
   unfolding lists.canonical
   canonical_same a fs c xs ys h e p q =
-      (c, bind_given _ k ∙ bind_given _ h ∙ e, q ∙ ap given (sym (agree_is rules.bases fs c xs ys p q (take_out (canon_agree value rules (order_in_total ks) fs) e))))
+      (c, bind_given _ k ∙ bind_given _ h ∙ e, q ∙ ap Ok (sym (agree_is rules.bases fs c xs ys p q (take_out (canon_agree value rules (order_in_total ks) fs) e))))
 
   -- the row of f is derived; its definition, to f's exponent, stands in place of f between the lists l and m
-  pub definition_same : (d : Row) (f : Factor) (v : Float) → f.row < length (rows_of t) → (get_or (rows_of t) f.row d).kind ≡ Derived v → (p : List Factor) → each (raised f.exponent) (def_of (get_or (rows_of t) f.row d)) ≡ given p →
+  pub definition_same : (d : Row) (f : Factor) (v : Float) → f.row < length (rows_of t) → (get_or (rows_of t) f.row d).kind ≡ Derived v → (p : List Factor) → each (raised f.exponent) (def_of (get_or (rows_of t) f.row d)) ≡ Ok p →
       (l m : List Factor) (xs ys : List Exponent) → Has (l ++ (f ∷ m)) xs → Has (l ++ (p ++ m)) ys → ys ≡ xs
   definition_same d f v i e p g l m xs ys a b =
       agree_is rules.bases (l ++ (p ++ m)) (l ++ (f ∷ m)) ys xs b a
@@ -136,24 +136,24 @@ module _ (t : Rows) (ks : List Facts) (k : table t ≡ given ks) where
 
   -- ---- "converting a nonzero value between unequal units is refused as incompatible exactly when their base exponents differ; if they agree, the answer is the scaled value in the target unit, unless 01 names a fractional scale"
 
-  module _ (q : Quantity) (m : Factors) (fs gs : List Factor) (h : both (length ks) q.unit m ≡ given (fs, gs)) where
+  module _ (q : Quantity) (m : Factors) (fs gs : List Factor) (h : both (length ks) q.unit m ≡ Ok (fs, gs)) where
     -- the five steps in which an exponent could leave the range: both canonical forms, the base exponents of the own list over the common factors, the target over them in canonical form, and its base exponents
     pub record InRange (cl cm l : List Factor) (x y : List Exponent) : Type 0 where
-      pub own_form : canon rules.order fs ≡ given cl
-      pub target_form : canon rules.order gs ≡ given cm
+      pub own_form : canon rules.order fs ≡ Ok cl
+      pub target_form : canon rules.order gs ≡ Ok cm
       pub own_base : Has (over fs (common rules.order cl cm)) x
-      pub over_form : canon rules.order (over gs (common rules.order cl cm)) ≡ given l
+      pub over_form : canon rules.order (over gs (common rules.order cl cm)) ≡ Ok l
       pub target-base : Has l y
 
     -- `same_list` says no: the canonical forms differ
-    pub forms_differ : lists.same_lists t q.unit m ≡ given false → {cl cm : List Factor} → canon rules.order fs ≡ given cl → canon rules.order gs ≡ given cm → cl ≡ cm → ⊥
+    pub forms_differ : lists.same_lists t q.unit m ≡ Ok false → {cl cm : List Factor} → canon rules.order fs ≡ Ok cl → canon rules.order gs ≡ Ok cm → cl ≡ cm → ⊥
     unfolding lists.same_lists equality.equal
     forms_differ unequal {cl} {cm} own target e =
-        let says : lists.same_lists t q.unit m ≡ given (same_list rules.order cl cm) = bind_given _ k ∙ bind_given _ h ∙ bind_given _ own ∙ ap (apply (same_list rules.order cl)) target in
+        let says : lists.same_lists t q.unit m ≡ Ok (same_list rules.order cl cm) = bind_given _ k ∙ bind_given _ h ∙ bind_given _ own ∙ ap (apply (same_list rules.order cl)) target in
         let no : same_list rules.order cl cm ≡ false = one_answer (sym says ∙ unequal) in
         (same_list_lem rules.order (order_in_total ks) cl cm).nay no e
 
-    module _ (nonzero : is_zero q.value ≡ false) (unequal : lists.same_lists t q.unit m ≡ given false) {cl cm l : List Factor} {x y : List Exponent} (s : InRange cl cm l x y) where
+    module _ (nonzero : is_zero q.value ≡ false) (unequal : lists.same_lists t q.unit m ≡ Ok false) {cl cm l : List Factor} {x y : List Exponent} (s : InRange cl cm l x y) where
       steps : Reduced rules value standing fs gs q.value cl cm (over fs (common rules.order cl cm)) x l y
       steps = record {
         lists = record { own = s.own_form; target = s.target_form; nonzero = nonzero; differ = forms_differ unequal s.own_form s.target_form };
@@ -161,13 +161,13 @@ module _ (t : Rows) (ks : List Facts) (k : table t ≡ given ks) where
         steps = record { own_base = s.own_base; target_is = s.over_form; target-base = s.target-base };
       }
 
-      pub units_exactly : (convert_to t q m ≡ refused UNITS) ↔ (SameBase fs gs → ⊥)
+      pub units_exactly : (convert_to t q m ≡ Err UNITS) ↔ (SameBase fs gs → ⊥)
       unfolding convert_to
       units_exactly = conversion.units_exactly (λ R. standing) t ks k (stands value) q m fs gs h steps
 
       -- the own scale is that of the own list over the common factors, not merged; the target scale that of the target over them, in canonical form
-      pub scaled_value : SameBase fs gs → (own target : Float) → Scale (over fs (common rules.order cl cm)) ≡ given own → Scale l ≡ given target →
-          convert_to t q m ≡ given (fresh (div ieee.binary64 (mul ieee.binary64 q.value own) target) gs)
+      pub scaled_value : SameBase fs gs → (own target : Float) → Scale (over fs (common rules.order cl cm)) ≡ Ok own → Scale l ≡ Ok target →
+          convert_to t q m ≡ Ok (fresh (div ieee.binary64 (mul ieee.binary64 q.value own) target) gs)
       unfolding convert_to
       scaled_value = conversion.scaled_value (λ R. standing) t ks k (stands value) q m fs gs h steps
 
@@ -178,12 +178,12 @@ module _ (t : Rows) (ks : List Facts) (k : table t ≡ given ks) where
 
   -- ---- "full simplification of a nonzero value, if it answers, keeps base exponents"
 
-  module _ (q : Quantity) (fs : List Factor) (h : checked (length ks) q.unit ≡ given fs) where
+  module _ (q : Quantity) (fs : List Factor) (h : checked (length ks) q.unit ≡ Ok fs) where
     pub simplify_keeps : is_zero q.value ≡ false → Holds (λ p. SameBase fs (list_of p.unit)) (full_simplify t q)
     simplify_keeps = simplification.keeps_base t ks k q fs h
 
     -- as 01 works them out
-    pub simplify_same : is_zero q.value ≡ false → (p : Quantity) → full_simplify t q ≡ given p → (xs ys : List Exponent) → Has fs xs → Has (list_of p.unit) ys → xs ≡ ys
+    pub simplify_same : is_zero q.value ≡ false → (p : Quantity) → full_simplify t q ≡ Ok p → (xs ys : List Exponent) → Has fs xs → Has (list_of p.unit) ys → xs ≡ ys
     simplify_same n p e xs ys a b = agree_is rules.bases fs (list_of p.unit) xs ys a b (take_out (simplify_keeps n) e)
 
     -- it is refused by what leaves the range and by FRACTION alone

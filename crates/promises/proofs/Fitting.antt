@@ -9,7 +9,7 @@ use lib.Ieee.{Float, binary64, neg}
 use lib.Ieee.Fits as ieee
 use lib.ListN.{length}
 use Rattle.exponents.specs.Words.{pick}
-use Rattle.exponents.specs.Outcome.{Outcome, given, DIVZERO, ZERONEG, apply}
+use Rattle.exponents.specs.Outcome.{Outcome, Ok, DIVZERO, ZERONEG, apply}
 use Rattle.exponents.specs.declared.Exponent.{Exponent}
 use Rattle.exponents.proofs.Holds.{holds_all, Holds, held, holds_any, holds_imp, holds_both, holds_unless, holds_map, holds_bind}
 use Rattle.exponents.proofs.InRange.{InRange, sound}
@@ -90,7 +90,7 @@ amounts_fit h = holds_map _ h λ a p. made-fits true a.0 a.1 p.0 p.1
 sum_fits : (R : Rules Float) (minus : Bool) (x y : Float) (fs gs : List Factor) → Bounds fs → Bounds gs → Holds QuantityFits (nonzero_sum R minus x y fs gs)
 unfolding nonzero_sum together
 sum_fits R minus x y fs gs h k =
-    holds_bind _ (holds_any _) λ same _. pick_is (Holds QuantityFits) same {a = given (fresh (combined minus x y) fs)} (held (made-fits true _ fs (combined_value minus x y) h))
+    holds_bind _ (holds_any _) λ same _. pick_is (Holds QuantityFits) same {a = Ok (fresh (combined minus x y) fs)} (held (made-fits true _ fs (combined_value minus x y) h))
     (holds_bind _ (holds_any _) λ first _. holds_bind _ (holds_any _) λ a _.
     holds_all _ (convert R gs (pick first fs gs) y) λ b. made-fits true _ (pick first fs gs) (combined_value minus a b) (pick_is Bounds first {a = fs} {b = gs} h k))
 
@@ -125,12 +125,12 @@ module _ (t : Rows) (q : Quantity) where
     pub simplify_fits : Holds QuantityFits (simplification.full_simplify t q)
     unfolding simplification.full_simplify
     simplify_fits = of_one t q.unit _ λ ks k fs h.
-        pick_is (Holds QuantityFits) q.mark {b = given (made false q.value fs)} (amounts_fit (simplify_amount t ks q.value fs v h)) (held (made-fits false q.value fs v h))
+        pick_is (Holds QuantityFits) q.mark {b = Ok (made false q.value fs)} (amounts_fit (simplify_amount t ks q.value fs v h)) (held (made-fits false q.value fs v h))
 
     pub with_fits : (c : Candidates) → Holds QuantityFits (registry.full_simplify_with t q c)
     unfolding registry.full_simplify_with
     with_fits c = of_one t q.unit _ λ ks k fs h. holds_bind _ (candidates_all Bounds (length ks) (checked_bounds t ks k) c) λ ms b.
-        pick_is (Holds QuantityFits) q.mark {b = given (made false q.value fs)}
+        pick_is (Holds QuantityFits) q.mark {b = Ok (made false q.value fs)}
         (amounts_fit (holds_bind _ (simplify_amount t ks q.value fs v h) λ a j.
         let to : (m : List Factor) → Bounds m → Holds (λ x. AmountFits (x, m)) (convert (rules_in t ks) a.1 m a.0) = λ m i. holds_imp (convert_value t ks standing a.1 m a.0 j.0) λ x f. (f, i) in
         registered_any (rules_in t ks) a AmountFits (base_rows t) ms j (λ xs e. to _ (reduced_bounds t ks k a.1 xs e)) (all_imp ms to b)))
@@ -154,8 +154,8 @@ module _ (t : Rows) (q : Quantity) where
       summed-fits : (minus : Bool) (lead : List Factor → Quantity) → ((fs : List Factor) → Bounds fs → QuantityFits (lead fs)) → Holds QuantityFits (sums.summed t minus lead q p)
       unfolding sums.summed
       summed-fits minus lead f = of_two t q.unit p.unit _ λ ks fs gs h k.
-          pick_is (Holds QuantityFits) (is_zero q.value) {a = given (lead gs)} (held (f gs k))
-          (pick_is (Holds QuantityFits) (is_zero p.value) {a = given (made q.mark q.value fs)} (held (made-fits q.mark q.value fs v h))
+          pick_is (Holds QuantityFits) (is_zero q.value) {a = Ok (lead gs)} (held (f gs k))
+          (pick_is (Holds QuantityFits) (is_zero p.value) {a = Ok (made q.mark q.value fs)} (held (made-fits q.mark q.value fs v h))
           (sum_fits (rules_in t ks) minus q.value p.value fs gs h k))
 
       pub add-fits : Holds QuantityFits (sums.add t q p)

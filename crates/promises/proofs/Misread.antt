@@ -10,7 +10,7 @@ use lib.Dec.{leb, eqb}
 use lib.IntN.{ℤ}
 use lib.Ieee.{of_bits}
 use lib.ListN.{length}
-use Rattle.exponents.specs.Outcome.{SHAPE, TABLE, refused, unless}
+use Rattle.exponents.specs.Outcome.{SHAPE, TABLE, Err, unless}
 use Rattle.exponents.specs.Fractions.{beyond, faulty}
 use Rattle.units.specs.Prefixes.{prefix_fault, prefix_factor}
 use Rattle.units.specs.declared.Factors.{Factors}
@@ -30,7 +30,7 @@ pub kind_fault_lem : (k : ℕ) (n : ℤ) → 1 < k → prefix_fault (prefix_of k
 unfolding prefix_of
 kind_fault_lem k n h = simp (ne_eqb k 0 (λ e. omega arith), ne_eqb k 1 (λ e. omega arith))
 
-pub prefix_kind_refused : (s : List ℕ) (i : ℕ) → 1 < le 4 s i → prefix_factor (prefix_at s i) ≡ refused SHAPE
+pub prefix_kind_refused : (s : List ℕ) (i : ℕ) → 1 < le 4 s i → prefix_factor (prefix_at s i) ≡ Err SHAPE
 unfolding prefix_at prefix_factor unless
 prefix_kind_refused s i h = rw (kind_fault_lem (le 4 s i) _ h)
 
@@ -39,11 +39,11 @@ unfolding factor_fault factor_at prefix_at
 factor_kind_fault s i h = rw (kind_fault_lem (le 4 s (i + 4)) _ h)
 
 -- a list of over 16 factors
-long_refused : (rows : ℕ) (l : Factors) → 16 < l.len → checked rows l ≡ refused SHAPE
+long_refused : (rows : ℕ) (l : Factors) → 16 < l.len → checked rows l ≡ Err SHAPE
 unfolding checked unless
 long_refused rows l h = rw (lt-ltb 16 l.len h)
 
-pub list_len_refused : (rows : ℕ) (s : List ℕ) (i : ℕ) → 16 < le 4 s i → checked rows (list_at s i) ≡ refused SHAPE
+pub list_len_refused : (rows : ℕ) (s : List ℕ) (i : ℕ) → 16 < le 4 s i → checked rows (list_at s i) ≡ Err SHAPE
 unfolding list_at
 list_len_refused rows s i h = long_refused rows (list_at s i) h
 
@@ -62,11 +62,11 @@ some-run fault read size (suc n) (suc j) s i h e =
     rw (some-run fault read size n j s (i + size) (omega arith) (ap (λ a. fault (read s a)) k ∙ e), or_true)
 
 -- a list with a prefix of no kind, at its factor j
-pub list_kind_refused : (rows : ℕ) (s : List ℕ) (i j : ℕ) → j < le 4 s i → 1 < le 4 s (i + 4 + j * 20 + 4) → checked rows (list_at s i) ≡ refused SHAPE
+pub list_kind_refused : (rows : ℕ) (s : List ℕ) (i j : ℕ) → j < le 4 s i → 1 < le 4 s (i + 4 + j * 20 + 4) → checked rows (list_at s i) ≡ Err SHAPE
 unfolding checked unless
 list_kind_refused rows s i j h k = go (leb (le 4 s i) 16) refl
   where
-    go : (t : Bool) → leb (le 4 s i) 16 ≡ t → checked rows (list_at s i) ≡ refused SHAPE
+    go : (t : Bool) → leb (le 4 s i) 16 ≡ t → checked rows (list_at s i) ≡ Err SHAPE
     go true e = rw (list_factors s i (leb-true (le 4 s i) 16 e), some-run factor_fault factor_at 20 (le 4 s i) j s (i + 4) h (factor_kind_fault s (i + 4 + j * 20) k), or_true)
     go false e = list_len_refused rows s i (leb-false (le 4 s i) 16 e)
 
@@ -93,15 +93,15 @@ module _ (s : List ℕ) where
   unfolding exponent_from faulty beyond
   exponent_length_fault h = rw (ne_eqb (length s) 8 h)
 
-  pub prefix_length_refused : (length s ≡ 8 → ⊥) → prefix_factor (prefix_from s) ≡ refused SHAPE
+  pub prefix_length_refused : (length s ≡ 8 → ⊥) → prefix_factor (prefix_from s) ≡ Err SHAPE
   unfolding prefix_from prefix_factor unless
   prefix_length_refused h = rw (ne_eqb (length s) 8 h)
 
-  pub list_length_refused : (rows : ℕ) → (length s ≡ 324 → ⊥) → checked rows (list_from s) ≡ refused SHAPE
+  pub list_length_refused : (rows : ℕ) → (length s ≡ 324 → ⊥) → checked rows (list_from s) ≡ Err SHAPE
   unfolding list_from
   list_length_refused rows h = rw (ne_eqb (length s) 324 h) (long_refused rows _ (omega arith))
 
-  pub quantity_length_refused : (rows : ℕ) → (length s ≡ 336 → ⊥) → checked rows (quantity_from s).unit ≡ refused SHAPE
+  pub quantity_length_refused : (rows : ℕ) → (length s ≡ 336 → ⊥) → checked rows (quantity_from s).unit ≡ Err SHAPE
   unfolding quantity_from
   quantity_length_refused rows h = rw (ne_eqb (length s) 336 h) (long_refused rows _ (omega arith))
 

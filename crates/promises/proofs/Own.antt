@@ -7,7 +7,7 @@ use Prim.Native.Nat.{ℕ, ◌≤◌, ◌<◌}
 use native.Mathlib.Omega.{arith}
 use lib.ListN.{length}
 use lib.Ieee.{Float}
-use Rattle.exponents.specs.Outcome.{Refusal, TABLE, SHAPE, UNKNOWN, RANGE, UNITS, FRACTION, DENOMINATOR, ORDER, MULTIPLE, ARGUMENT, number, Outcome, refused}
+use Rattle.exponents.specs.Outcome.{Refusal, TABLE, SHAPE, UNKNOWN, RANGE, UNITS, FRACTION, DENOMINATOR, ORDER, MULTIPLE, ARGUMENT, number, Outcome, Err}
 use Rattle.exponents.proofs.Holds.{Only, only_out, only_map, only_bind}
 use Rattle.exponents.proofs.Halves.{OutOfRange, by_numerator, by_denominator}
 use Rattle.exponents.proofs.Rationals.{value}
@@ -69,12 +69,12 @@ module _ (t : Rows) (q : Quantity) (m : Factors) where
       only_map _ (convert_only (rules_in t ks) value (order_in_total ks) (ready (rules_in t ks)) (K ks) OfConversion leaves_range of_fraction p.0 p.1 q.value (λ _. of_units))
 
   -- THEOREM: 01's conversion has no other refusals, whatever the table, the quantity and the list
-  pub convert_own : (r : Refusal) → convert_to t q m ≡ refused r → OfConversion r
+  pub convert_own : (r : Refusal) → convert_to t q m ≡ Err r → OfConversion r
   unfolding convert_to
   convert_own r e = only_out (conversion_only (λ R. standing) (λ ks. stands value)) e
 
   -- THEOREM: nor has that of 02's order 3
-  pub merged_own : (r : Refusal) → convert_merged t q m ≡ refused r → OfConversion r
+  pub merged_own : (r : Refusal) → convert_merged t q m ≡ Err r → OfConversion r
   unfolding convert_merged
   merged_own r e = only_out (conversion_only (λ R. canon R.order) (λ ks. merges value (rules_in t ks) (order_in_total ks))) e
 
@@ -100,16 +100,16 @@ module _ (t : Rows) (ks : List Quantity) (u : Rule) where
     pub too_many : overfull u values ≡ true
 
   -- a refusal from 14 on is no lowest knot's
-  not_lowest : {r w : Refusal} → Lowest t u.unit ks w → ◌≡◌ {A = Outcome (List Run)} (refused w) (refused r) → 14 ≤ number r → ⊥
+  not_lowest : {r w : Refusal} → Lowest t u.unit ks w → ◌≡◌ {A = Outcome (List Run)} (Err w) (Err r) → 14 ≤ number r → ⊥
   not_lowest {r} {w} l e h =
       let n : w ≡ r = cc in
       omega (arith, of-below (lowest_own l), ap number n, h)
 
   -- THEOREM: ARGUMENT exactly where count, degree or tolerance is bad
-  pub own_argument : (knot_vector t ks u ≡ refused ARGUMENT) ↔ (bad_arguments ks u ≡ true)
+  pub own_argument : (knot_vector t ks u ≡ Err ARGUMENT) ↔ (bad_arguments ks u ≡ true)
   own_argument = (go (one_case t ks u), λ f. no_other t ks u (argument f))
     where
-      go : {p : Outcome (List Run)} → Case t ks u p → p ≡ refused ARGUMENT → bad_arguments ks u ≡ true
+      go : {p : Outcome (List Run)} → Case t ks u p → p ≡ Err ARGUMENT → bad_arguments ks u ≡ true
       go (argument f) e = f
       go (conversion w f l) e = absurd (not_lowest l e (omega arith))
       go (order xs f b h) e = let z : ◌≡◌ {A = ℕ} 0 1 = cc in absurd (omega arith)
@@ -117,10 +117,10 @@ module _ (t : Rows) (ks : List Quantity) (u : Rule) where
       go (answer xs f b h c) e = let z : ◌≡◌ {A = ℕ} 0 1 = cc in absurd (omega arith)
 
   -- THEOREM: ORDER exactly where these are good, every knot converts and the values are out of order
-  pub own_order : (knot_vector t ks u ≡ refused ORDER) ↔ Unordered
+  pub own_order : (knot_vector t ks u ≡ Err ORDER) ↔ Unordered
   own_order = (go (one_case t ks u), λ o. no_other t ks u (order o.values o.arguments o.convert o.out_of_order))
     where
-      go : {p : Outcome (List Run)} → Case t ks u p → p ≡ refused ORDER → Unordered
+      go : {p : Outcome (List Run)} → Case t ks u p → p ≡ Err ORDER → Unordered
       go (argument f) e = let z : ◌≡◌ {A = ℕ} 0 1 = cc in absurd (omega arith)
       go (conversion w f l) e = absurd (not_lowest l e (omega arith))
       go (order xs f b h) e = record { arguments = f; values = xs; convert = b; out_of_order = h }
@@ -128,10 +128,10 @@ module _ (t : Rows) (ks : List Quantity) (u : Rule) where
       go (answer xs f b h c) e = let z : ◌≡◌ {A = ℕ} 0 1 = cc in absurd (omega arith)
 
   -- THEOREM: MULTIPLE exactly where they are in order and a run has more knots than the degree plus one
-  pub own_multiple : (knot_vector t ks u ≡ refused MULTIPLE) ↔ Overfull
+  pub own_multiple : (knot_vector t ks u ≡ Err MULTIPLE) ↔ Overfull
   own_multiple = (go (one_case t ks u), λ o. no_other t ks u (multiple o.values o.arguments o.convert o.in_order o.too_many))
     where
-      go : {p : Outcome (List Run)} → Case t ks u p → p ≡ refused MULTIPLE → Overfull
+      go : {p : Outcome (List Run)} → Case t ks u p → p ≡ Err MULTIPLE → Overfull
       go (argument f) e = let z : ◌≡◌ {A = ℕ} 0 1 = cc in absurd (omega arith)
       go (conversion w f l) e = absurd (not_lowest l e (omega arith))
       go (order xs f b h) e = let z : ◌≡◌ {A = ℕ} 0 1 = cc in absurd (omega arith)
@@ -139,15 +139,15 @@ module _ (t : Rows) (ks : List Quantity) (u : Rule) where
       go (answer xs f b h c) e = let z : ◌≡◌ {A = ℕ} 0 1 = cc in absurd (omega arith)
 
   -- THEOREM: with these good, any other refusal exactly where it is that of the lowest knot that doesn't convert
-  pub lowest_exactly : bad_arguments ks u ≡ false → (r : Refusal) → number r < 14 → (knot_vector t ks u ≡ refused r) ↔ Lowest t u.unit ks r
+  pub lowest_exactly : bad_arguments ks u ≡ false → (r : Refusal) → number r < 14 → (knot_vector t ks u ≡ Err r) ↔ Lowest t u.unit ks r
   lowest_exactly f r n = (go (one_case t ks u), λ l. no_other t ks u (conversion r f l))
     where
-      other : {w : Refusal} → ◌≡◌ {A = Outcome (List Run)} (refused w) (refused r) → 14 ≤ number w → ⊥
+      other : {w : Refusal} → ◌≡◌ {A = Outcome (List Run)} (Err w) (Err r) → 14 ≤ number w → ⊥
       other {w} e h =
           let s : w ≡ r = cc in
           omega (arith, n, ap number s, h)
 
-      go : {p : Outcome (List Run)} → Case t ks u p → p ≡ refused r → Lowest t u.unit ks r
+      go : {p : Outcome (List Run)} → Case t ks u p → p ≡ Err r → Lowest t u.unit ks r
       go (argument g) e = absurd (other e (omega arith))
       go (conversion w g l) e = let s : r ≡ w = cc in rw s l
       go (order xs g b h) e = absurd (other e (omega arith))

@@ -6,7 +6,7 @@ use lib.IntN.{ℤ, pos}
 use lib.Ieee as ieee
 use lib.Ieee.{binary64, to_bits, of_bits}
 use lib.ListN.{length}
-use Rattle.exponents.specs.Outcome.{Refusal, Outcome, given, refused, unless, bind, each}
+use Rattle.exponents.specs.Outcome.{Refusal, Outcome, Ok, Err, unless, bind, each}
 use Rattle.exponents.specs.Held.{worked}
 use Rattle.floats.specs.Power.{bits_of, raise, power}
 use Rattle.units.specs.declared.Factor.{Factor}
@@ -64,8 +64,8 @@ pub data Says : Type 0 where
   refuses : Refusal → Says
 
 unfoldable pub says : {A : Type 0} → (A → Says) → Outcome A → Says
-says f (given a) = f a
-says f (refused r) = refuses r
+says f (Ok a) = f a
+says f (Err r) = refuses r
 
 -- a case: what a call says, and what it must say
 abbrev pub Case : Type 0

@@ -7,7 +7,7 @@ use native.Mathlib.Omega.{arith}
 use lib.Ieee.{Float}
 use lib.ListN.{length}
 use Rattle.exponents.specs.Words.{pick}
-use Rattle.exponents.specs.Outcome.{Refusal, FRACTION, SHAPE, UNKNOWN, UNITS, given, refused, apply}
+use Rattle.exponents.specs.Outcome.{Refusal, FRACTION, SHAPE, UNKNOWN, UNITS, Ok, Err, apply}
 use Rattle.exponents.proofs.Holds.{Holds, held, Only, fine, holds_map, only_map, only_bind, bind_given}
 use Rattle.exponents.proofs.Halves.{OutOfRange}
 use Rattle.exponents.proofs.Rationals.{value}
@@ -32,19 +32,19 @@ use Rattle.simplification.proofs.Kept.{simplify_only_in, simplified_keeps}
 use Rattle.promises.proofs.Unadmitted.{checked_only, table_only}
 
 -- q is a quantity of the admitted table t, fs its list
-module _ (t : Rows) (ks : List Facts) (k : table t ≡ given ks) (q : Quantity) (fs : List Factor) (h : checked (length ks) q.unit ≡ given fs) where
+module _ (t : Rows) (ks : List Facts) (k : table t ≡ Ok ks) (q : Quantity) (fs : List Factor) (h : checked (length ks) q.unit ≡ Ok fs) where
   -- p has its base exponents
   abbrev pub KeepsBase : Quantity → Type 0
   KeepsBase p = Agree value (rules_in t ks).bases fs (list_of p.unit)
 
-  goes : full_simplify t q ≡ pick q.mark (apply quantity_of (simplify (rules_in t ks) q.value fs)) (given (made false q.value fs))
+  goes : full_simplify t q ≡ pick q.mark (apply quantity_of (simplify (rules_in t ks) q.value fs)) (Ok (made false q.value fs))
   unfolding full_simplify
   goes = bind_given _ k ∙ bind_given _ h
 
   pub made_keeps : (mark : Bool) (v : Float) (m : List Factor) → Agree value (rules_in t ks).bases fs m → KeepsBase (made mark v m)
   made_keeps mark v m a = subst (λ l. Agree value (rules_in t ks).bases fs l) (sym (list_pack m)) a
 
-  pub same : Holds KeepsBase (given (made false q.value fs))
+  pub same : Holds KeepsBase (Ok (made false q.value fs))
   same = held {a = made false q.value fs} (made_keeps false q.value fs (agree_self value (rules_in t ks).bases fs))
 
   -- THEOREM: full simplification of a nonzero value, if it answers, keeps base exponents
@@ -58,7 +58,7 @@ module _ (t : Rows) (ks : List Facts) (k : table t ≡ given ks) (q : Quantity) 
   refuses S range fraction = subst (λ o. Only S o) (sym goes) (either_only S q.mark (only_map _ (simplify_only_in t ks k q.unit fs h q.value S range fraction)) fine)
 
   -- without the mark a quantity is unchanged, a zero too
-  pub unmarked : q.mark ≡ false → full_simplify t q ≡ given (made false q.value fs)
+  pub unmarked : q.mark ≡ false → full_simplify t q ≡ Ok (made false q.value fs)
   unmarked e = goes ∙ rw e
 
   pub unmarked_keeps : q.mark ≡ false → Holds KeepsBase (full_simplify t q)
@@ -86,5 +86,5 @@ module _ (t : Rows) (q : Quantity) where
       only_bind (checked (length ks) q.unit) _ (list_not_units (length ks) q.unit) λ fs h.
       either_only NotUnits q.mark (only_map _ (simplify_only_in t ks k q.unit fs h q.value NotUnits range_not_units fraction_not_units)) fine
 
-  pub never_units : full_simplify t q ≡ refused UNITS → ⊥
+  pub never_units : full_simplify t q ≡ Err UNITS → ⊥
   never_units e = never simplify_refuses e

@@ -8,7 +8,7 @@ use borrow.Author.Tests.{le-ltb}
 use lib.Dec.{eqb, ltb}
 use lib.Ieee.{Float}
 use lib.ListN.{length, length-append}
-use Rattle.exponents.specs.Outcome.{Outcome, refused, ROOM, unless, apply, bind}
+use Rattle.exponents.specs.Outcome.{Outcome, Err, ROOM, unless, apply, bind}
 use Rattle.exponents.proofs.Holds.{holds_all, holds_eq, holds_bind, holds_unless, Holds, moot, held, holds_imp, holds_map}
 use Rattle.units.specs.declared.Factor.{Factor}
 use Rattle.units.specs.declared.Quantity.{Quantity}
@@ -205,5 +205,5 @@ unfolding answered
 answered_is code s = sent-whole lent (holds_imp (no_longer code s) λ bs h. omega (arith, lent_length))
 
 -- ROOM in the stream is the call's own
-pub room_own : (code : ℕ) (s : List ℕ) → (answered code s ≡ refused ROOM) ↔ (answer_to code s ≡ refused ROOM)
+pub room_own : (code : ℕ) (s : List ℕ) → (answered code s ≡ Err ROOM) ↔ (answer_to code s ≡ Err ROOM)
 room_own code s = (λ e. sym (answered_is code s) ∙ e, λ e. answered_is code s ∙ e)

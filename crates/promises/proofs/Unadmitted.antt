@@ -2,7 +2,7 @@
 use mathlib.Core.List.{List, [], ◌∷◌, ◌++◌}
 use Prim.Native.Nat.{ℕ}
 use lib.Dec.{ltb}
-use Rattle.exponents.specs.Outcome.{Refusal, TABLE, SHAPE, UNKNOWN, DENOMINATOR, FRACTION, Outcome, given, refused}
+use Rattle.exponents.specs.Outcome.{Refusal, TABLE, SHAPE, UNKNOWN, DENOMINATOR, FRACTION, Outcome, Ok, Err}
 use Rattle.exponents.specs.declared.Exponent.{Exponent}
 use Rattle.exponents.proofs.Holds.{Only, fine, only, only_unless, only_map, only_bind}
 use Rattle.exponents.proofs.Halves.{OutOfRange, by_denominator, lcm_only}
@@ -53,8 +53,8 @@ module _ (S : Refusal → Type 0) where
         only_bind _ _ (scale_only r.kind js r) λ s _. fine))
 
     on_only : (o : Outcome Facts) (js : List Facts) (next : Facts → Admission) → Only S o → ((k : Facts) → Only S (known (next k))) → Only S (known (admit_on o js next))
-    on_only (given k) js next h f = f k
-    on_only (refused w) js next (only h) f = only h
+    on_only (Ok k) js next h f = f k
+    on_only (Err w) js next (only h) f = only h
 
     from_only : (ss : List Slot) (js : List Facts) (rs : List Row) → Only S (known (admit_from ss js rs))
     unfolding admit_from

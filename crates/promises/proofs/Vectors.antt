@@ -8,7 +8,8 @@ use lib.Ieee.{Float, binary64, of_bits}
 use lib.Ieee.Fits.{div-fits}
 use lib.ListN.{length, drop, length-append}
 use Rattle.exponents.specs.Words.{All}
-use Rattle.exponents.specs.Outcome.{Outcome, given, refused}
+use Rattle.exponents.specs.Outcome.{Refusal, Outcome, Ok, Err, apply}
+use Rattle.exponents.proofs.Numbers.{apply_refuses}
 use Rattle.exponents.proofs.Each.{all_imp, all_both}
 use Rattle.exponents.proofs.Holds.{Holds, moot, held, take_out, holds_by, holds_imp}
 use Rattle.exponents.proofs.Steps.{unless_off, bind_on, bind_off}
@@ -29,11 +30,6 @@ use Rattle.replies.specs.Replies.{value_bytes}
 use Rattle.replies.proofs.Parts.{value_sized}
 use Rattle.knotruns.specs.Runs.{Run, run, firsts, multiplicities, quotient_at, merged_at}
 use Rattle.knotruns.specs.Knots.{roomy, firsts_into, times_into}
-use Rattle.knotruns.specs.Held.{told_of, quotient_of}
-use Rattle.knotruns.specs.declared.Told.{Told}
-use Rattle.knotruns.specs.declared.Told.TheVariants as told
-use Rattle.knotruns.specs.declared.Quotient.{Quotient}
-use Rattle.knotruns.proofs.Answers.{told-refused}
 use Rattle.knotruns.proofs.Apart.{Apart}
 use Rattle.knotruns.proofs.Multiplicities.{total}
 use Rattle.knotruns.proofs.Rising.{distinct}
@@ -48,10 +44,10 @@ use Rattle.askknots.specs.Calls as ask
 use Rattle.askknots.proofs.Stored.{vector_sized}
 use Rattle.askknots.proofs.Told.{few_runs}
 use Rattle.demsharin.specs.Exports.{Exported}
-use Rattle.promises.specs.Shipped.{distinct_at, runs_in, vector_from, quotient_from, placed, vector_in, quotient_in}
+use Rattle.promises.specs.Shipped.{distinct_at, runs_in, vector_from, quotient_from, placed, vector_in}
 use Rattle.promises.proofs.Rounded.{ValueFits}
 use Rattle.promises.proofs.Fitting.{merged-fits}
-use Rattle.promises.proofs.Shipped.{named-number, from_room}
+use Rattle.promises.proofs.Shipped.{from_room}
 
 -- ---- runs in bytes
 
@@ -126,11 +122,11 @@ module _ (tb kb ub room : List ℕ) (n : ℕ) (end : List ℕ) where
     vector_has P p = subst P (sym exported_vector) p
 
     -- so, of the runs in the room: their multiplicities add up to the knots given
-    pub exported_adds_up : (rs : List Run) → vector_from n end ≡ given rs → total rs ≡ length (knots_in kb)
+    pub exported_adds_up : (rs : List Run) → vector_from n end ≡ Ok rs → total rs ≡ length (knots_in kb)
     exported_adds_up rs e = knot.add_up (table_from tb) (knots_in kb) (rule_from ub) rs (sym exported_vector ∙ e)
 
     -- and their values rise, each above the one before it by more than the tolerance
-    pub exported_rises : (rs : List Run) → vector_from n end ≡ given rs → (j : ℕ) → suc j < length rs → Apart (rule_from ub).tolerance (distinct rs j) (distinct rs (suc j))
+    pub exported_rises : (rs : List Run) → vector_from n end ≡ Ok rs → (j : ℕ) → suc j < length rs → Apart (rule_from ub).tolerance (distinct rs j) (distinct rs (suc j))
     exported_rises rs e = knot.apart (table_from tb) (knots_in kb) (rule_from ub) rs (sym exported_vector ∙ e)
 
   module _ (long : 8 ≤ length room) (contract : Exported room (ask.span_quotient tb kb ub) n end) where
@@ -152,35 +148,31 @@ unfolding placed
 placed_back [] l m = refl
 placed_back (r ∷ rs) l m = ap (λ q. r ∷ q) (placed_back rs l m)
 
-in_places : (o : Outcome (List Run)) (fs : List Float) (ks : List ℕ) → vector_in (told_of o) (firsts_into o fs) (times_into o ks) ≡ o
-in_places (given rs) fs ks = ap given (placed_back rs (drop (length rs) fs) (drop (length rs) ks))
-in_places (refused r) fs ks = ap refused (named-number r)
+in_places : (o : Outcome (List Run)) (fs : List Float) (ks : List ℕ) → vector_in (apply length o) (firsts_into o fs) (times_into o ks) ≡ o
+in_places (Ok rs) fs ks = ap Ok (placed_back rs (drop (length rs) fs) (drop (length rs) ks))
+in_places (Err r) fs ks = refl
 
-in_quotient : (o : Outcome Float) → quotient_in (quotient_of o) ≡ o
-in_quotient (given x) = refl
-in_quotient (refused r) = ap refused (named-number r)
-
-room_enough : (a b : ℕ) (o : Outcome (List Run)) → 512 ≤ a → 512 ≤ b → ((rs : List Run) → o ≡ given rs → length rs ≤ 512) → roomy a b o ≡ o
+room_enough : (a b : ℕ) (o : Outcome (List Run)) → 512 ≤ a → 512 ≤ b → ((rs : List Run) → o ≡ Ok rs → length rs ≤ 512) → roomy a b o ≡ o
 unfolding roomy
-room_enough a b (given rs) p q h = let l = h rs refl in bind_on rs _ ∙ rw (le-ltb a (length rs) (omega arith), le-ltb b (length rs) (omega arith), unless_off)
-room_enough a b (refused r) p q h = bind_off r _
+room_enough a b (Ok rs) p q h = let l = h rs refl in bind_on rs _ ∙ rw (le-ltb a (length rs) (omega arith), le-ltb b (length rs) (omega arith), unless_off)
+room_enough a b (Err r) p q h = bind_off r _
 
 module _ (rows : List Row) (kb : List ℕ) where
-  module _ (u : Rule) (r : Told) (fs fs' : List Float) (ks ks' : List ℕ) (contract : Vectored (lent_rows_lem rows) kb u r fs fs' ks ks') where
+  module _ (u : Rule) (r : Outcome ℕ) (fs fs' : List Float) (ks ks' : List ℕ) (contract : Vectored (lent_rows_lem rows) kb u r fs fs' ks ks') where
     -- THEOREM: the number that `knot_vector` tells, and so many of the places from the first on, are the runs; ROOM where they are too few, after every other refusal
     pub lent-vector : vector_in r fs' ks' ≡ roomy (length fs) (length ks) (knot_vector (lent_rows_lem rows) (knots_in kb) u)
     lent-vector = rw (contract.told, contract.firsts, contract.times) (in_places (roomy (length fs) (length ks) (knot_vector (lent_rows_lem rows) (knots_in kb) u)) fs ks)
 
     -- THEOREM: a refusal leaves all places as they were
-    pub lent_keeps : (n : ℕ) → r ≡ told.Refused n → (fs' ≡ fs) × (ks' ≡ ks)
-    lent_keeps n e =
-        let w = told-refused (roomy (length fs) (length ks) (knot_vector (lent_rows_lem rows) (knots_in kb) u)) n (sym contract.told ∙ e) in
-        (contract.firsts ∙ ap (λ o. firsts_into o fs) w.1, contract.times ∙ ap (λ o. times_into o ks) w.1)
+    pub lent_keeps : (w : Refusal) → r ≡ Err w → (fs' ≡ fs) × (ks' ≡ ks)
+    lent_keeps w e =
+        let o = apply_refuses length (roomy (length fs) (length ks) (knot_vector (lent_rows_lem rows) (knots_in kb) u)) w (sym contract.told ∙ e) in
+        (contract.firsts ∙ ap (λ o. firsts_into o fs) o, contract.times ∙ ap (λ o. times_into o ks) o)
 
     -- THEOREM: 512 places are always enough
     pub lent_enough : 512 ≤ length fs → 512 ≤ length ks → vector_in r fs' ks' ≡ knot_vector (lent_rows_lem rows) (knots_in kb) u
     lent_enough p q = lent-vector ∙ room_enough (length fs) (length ks) (knot_vector (lent_rows_lem rows) (knots_in kb) u) p q (few_runs (lent_rows_lem rows) kb u)
 
   -- THEOREM: what `span_quotient` hands over is the span quotient
-  pub lent-quotient : (s : Span) (r : Quotient) → r ≡ quotient_of (span_quotient (lent_rows_lem rows) (knots_in kb) s) → quotient_in r ≡ span_quotient (lent_rows_lem rows) (knots_in kb) s
-  lent-quotient s r contract = ap quotient_in contract ∙ in_quotient (span_quotient (lent_rows_lem rows) (knots_in kb) s)
+  pub lent-quotient : (s : Span) (r : Outcome Float) → r ≡ span_quotient (lent_rows_lem rows) (knots_in kb) s → r ≡ span_quotient (lent_rows_lem rows) (knots_in kb) s
+  lent-quotient s r contract = contract

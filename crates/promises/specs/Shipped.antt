@@ -1,20 +1,15 @@
--- What a caller of the calls as they ship makes of an answer: the number that is told, and the quantity, its count, the runs or the quotient beside it or in the room.
+-- What a caller of the calls as they ship makes of an answer: of an exported one by the number that is told and what lies in the room, of one over lent rows by the count or the places beside it. A quantity and a quotient over lent rows are the outcome itself.
 use Rattle.std.specs.Prelude.{List, [], ◌∷◌, ℕ, zero, suc, ◌+◌, eqb, Float, get_or, drop}
 use Rattle.std.specs.Float.{binary64, nan}
 use Rattle.std.specs.Float.Ieee.{of_bits}
 use Rattle.exponents.specs.Words.{pick}
-use Rattle.exponents.specs.Outcome.{Refusal, TABLE, SHAPE, UNKNOWN, ROOM, RANGE, UNITS, FRACTION, DIVZERO, ZERONEG, NONWHOLE, NAN, FORMAT, DENOMINATOR, ORDER, MULTIPLE, ARGUMENT, number, Outcome, given, refused}
+use Rattle.exponents.specs.Outcome.{Refusal, TABLE, SHAPE, UNKNOWN, ROOM, RANGE, UNITS, FRACTION, DIVZERO, ZERONEG, NONWHOLE, NAN, FORMAT, DENOMINATOR, ORDER, MULTIPLE, ARGUMENT, number, Outcome, Ok, Err, apply}
 use Rattle.units.specs.declared.Quantity.{Quantity}
-use Rattle.values.specs.declared.answers.Answer.{Answer}
 use Rattle.counted.specs.declared.Counted.{Counted}
 use Rattle.askcounted.specs.Records.{counted_at}
 use Rattle.wire.specs.Bytes.{le, run_at}
 use Rattle.wire.specs.Records.{quantity_at}
 use Rattle.knotruns.specs.Runs.{Run, run}
-use Rattle.knotruns.specs.declared.Told.{Told}
-use Rattle.knotruns.specs.declared.Told.TheVariants as told
-use Rattle.knotruns.specs.declared.Quotient.{Quotient}
-use Rattle.knotruns.specs.declared.Quotient.TheVariants as quo
 
 -- the refusal with a number
 unfoldable pub named : ℕ → Refusal
@@ -27,11 +22,7 @@ named n =
 
 -- an answer where the number is 0
 unfoldable pub heard : {A : Type 0} → ℕ → A → Outcome A
-heard n a = pick (eqb n 0) (given a) (refused (named n))
-
--- from a call over lent rows
-abbrev pub outcome_in : Answer → Outcome Quantity
-outcome_in r = heard r.refusal r.quantity
+heard n a = pick (eqb n 0) (Ok a) (Err (named n))
 
 -- from an exported call: the number that it returned, and what its room holds
 abbrev pub outcome_from : ℕ → List ℕ → Outcome Quantity
@@ -39,8 +30,8 @@ outcome_from n end = heard n (quantity_at end 0)
 
 -- ---- counted conversions: the quantity, and the multiplications that it took
 
-abbrev pub counted_in : Counted → Outcome (Quantity × ℕ)
-counted_in r = heard r.refusal (r.quantity, r.count)
+abbrev pub counted_in : Outcome Counted → Outcome (Quantity × ℕ)
+counted_in r = apply (λ c. (c.quantity, c.count)) r
 
 abbrev pub counted_from : ℕ → List ℕ → Outcome (Quantity × ℕ)
 counted_from n end = heard n (counted_at end 0)
@@ -68,10 +59,5 @@ placed zero fs ks = []
 placed (suc n) fs ks = run (get_or fs 0 nan) (get_or ks 0 0) ∷ placed n (drop 1 fs) (drop 1 ks)
 
 -- from a call over lent rows: what it told, and the places
-abbrev pub vector_in : Told → List Float → List ℕ → Outcome (List Run)
-vector_in (told.Number n) fs ks = given (placed n fs ks)
-vector_in (told.Refused n) fs ks = refused (named n)
-
-abbrev pub quotient_in : Quotient → Outcome Float
-quotient_in (quo.Value x) = given x
-quotient_in (quo.Refused n) = refused (named n)
+abbrev pub vector_in : Outcome ℕ → List Float → List ℕ → Outcome (List Run)
+vector_in r fs ks = apply (λ n. placed n fs ks) r

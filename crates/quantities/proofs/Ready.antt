@@ -1,6 +1,6 @@
 -- What a conversion between the lists of a call gives: as the table's rules have it.
 use mathlib.Core.Path.{◌≡◌, ap, ◌∙◌}
-use mathlib.Core.List.{List, []}
+use mathlib.Core.List.{List}
 use Prim.Native.Nat.{ℕ}
 use lib.IntN.{ℤ}
 use lib.Ieee.{Float}
@@ -10,25 +10,22 @@ use Rattle.units.specs.declared.Factors.{Factors}
 use Rattle.units.specs.declared.Rows.{Rows}
 use Rattle.tables.specs.declared.Items.{Items}
 use Rattle.tables.specs.Rules.{Rules, rules_in}
-use Rattle.tables.specs.Held.{View, Lends, rules_by, Resolved, no_items_lem}
-use Rattle.tables.proofs.Resolved.{none_resolved}
+use Rattle.tables.specs.Held.{View, Lends, rules_by, Resolved}
 use Rattle.lists.specs.Held.{Tells}
 use Rattle.lists.specs.declared.opening.Opened.{Opened}
 use Rattle.lists.proofs.Ready.{Ready, seen, lends}
 use Rattle.conversion.specs.Conversion.{convert}
-use Rattle.conversion.specs.Held.{converted_of}
-use Rattle.conversion.specs.declared.convert.Converted.{Converted}
 
 -- what code promises of what it hands over, h by a view's rules, for the lists l and m
 abbrev pub Hands : {C : Type 0} → (Rules Float → List Factor → List Factor → C) → List ℤ → List ℕ → Items → Items → ℕ → C → Type 0
 Hands h nums dens l m n c = (v : View) (fs gs : List Factor) → Lends v n nums dens → Resolved v l fs → Resolved v m gs → c ≡ h (rules_by v n) fs gs
 
 -- of a conversion from l to m by f
-abbrev pub ConvertsBy : (Rules Float → List Factor → List Factor → Float → Outcome Float) → List ℤ → List ℕ → Float → Items → Items → ℕ → Converted → Type 0
-ConvertsBy f nums dens y = Hands (λ R fs gs. converted_of (f R fs gs y)) nums dens
+abbrev pub ConvertsBy : (Rules Float → List Factor → List Factor → Float → Outcome Float) → List ℤ → List ℕ → Float → Items → Items → ℕ → Outcome Float → Type 0
+ConvertsBy f nums dens y = Hands (λ R fs gs. f R fs gs y) nums dens
 
 -- and of 01's
-abbrev pub Converts : List ℤ → List ℕ → Float → Items → Items → ℕ → Converted → Type 0
+abbrev pub Converts : List ℤ → List ℕ → Float → Items → Items → ℕ → Outcome Float → Type 0
 Converts = ConvertsBy (λ R. convert R)
 
 -- by the rules R, where the view's are these
@@ -44,15 +41,11 @@ module _ {t : Rows} {a b : Factors} {x : Opened} (r : Ready t a b x) (nums : Lis
   pub forward : (h : Rules Float → List Factor → List Factor → C) → Hands h nums dens x.a x.b x.slots.len c → c ≡ h (rules_in t r.ks) r.fs r.gs
   forward h = in_table h x.a x.b r.fs r.gs r.first r.second
 
-module _ {t : Rows} {a b : Factors} {x : Opened} (r : Ready t a b x) (nums : List ℤ) (dens : List ℕ) (tells : Tells t nums dens) (y : Float) (c : Converted) where
+module _ {t : Rows} {a b : Factors} {x : Opened} (r : Ready t a b x) (nums : List ℤ) (dens : List ℕ) (tells : Tells t nums dens) (y : Float) (c : Outcome Float) where
   -- the first list to the second
-  pub forth : (f : Rules Float → List Factor → List Factor → Float → Outcome Float) → ConvertsBy f nums dens y x.a x.b x.slots.len c → c ≡ converted_of (f (rules_in t r.ks) r.fs r.gs y)
-  forth f = forward r nums dens tells c (λ R fs gs. converted_of (f R fs gs y))
+  pub forth : (f : Rules Float → List Factor → List Factor → Float → Outcome Float) → ConvertsBy f nums dens y x.a x.b x.slots.len c → c ≡ f (rules_in t r.ks) r.fs r.gs y
+  forth f = forward r nums dens tells c (λ R fs gs. f R fs gs y)
 
   -- the second to the first
-  pub back : Converts nums dens y x.b x.a x.slots.len c → c ≡ converted_of (convert (rules_in t r.ks) r.gs r.fs y)
-  back = in_table r nums dens tells c (λ R fs gs. converted_of (convert R fs gs y)) x.b x.a r.gs r.fs r.second r.first
-
-  -- the second to scalar
-  pub to_scalar : (u : Items) → u ≡ no_items_lem → Converts nums dens y x.b u x.slots.len c → c ≡ converted_of (convert (rules_in t r.ks) r.gs [] y)
-  to_scalar u e = in_table r nums dens tells c (λ R fs gs. converted_of (convert R fs gs y)) x.b u r.gs [] r.second (none_resolved (seen r) r.second.placed u e)
+  pub back : Converts nums dens y x.b x.a x.slots.len c → c ≡ convert (rules_in t r.ks) r.gs r.fs y
+  back = in_table r nums dens tells c (λ R fs gs. convert R fs gs y) x.b x.a r.gs r.fs r.second r.first

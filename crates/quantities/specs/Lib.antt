@@ -1,3 +1,2 @@
 pub mod Comparisons
 pub mod Calls
-pub mod Held

@@ -1,47 +1,26 @@
--- Lists of base exponents compared: one turn of a loop, and as code holds them, in sixteen places.
+-- Lists of base exponents compared, also as code holds them, in sixteen places.
 use mathlib.Core.Path.{◌≡◌, refl, sym, ap, ap₂, ◌∙◌}
-use mathlib.Core.Bool.{true, false, ◌&&◌}
+use mathlib.Core.Bool.{true, ◌&&◌}
+use Rattle.std.specs.Ordering.{int_eq}
+use Rattle.std.specs.Cmp.Lexicographic.{pointwise}
+use lib.Dec.{eqb}
 use mathlib.Core.List.{List, [], ◌∷◌, ◌++◌}
-use Prim.Native.Nat.{ℕ, zero, suc, ◌+◌, ◌-◌, ◌≤◌, ◌<◌}
+use Prim.Native.Nat.{ℕ, zero, suc, ◌-◌}
 use native.Mathlib.Omega.{arith}
-use lib.ListN.{length, drop, get_or, replicate, drop_of_length-le}
+use lib.ListN.{length, replicate}
 use Rattle.exponents.specs.Fractions.{nought, same_z, same}
 use Rattle.exponents.specs.declared.Exponent.{Exponent}
 use Rattle.tables.specs.Held.{pack_exps}
-use Rattle.exponents.proofs.Places.{rest}
+use Rattle.exponents.proofs.Equality.{same_eq}
 use Rattle.canonical.specs.Canonical.{same_all, all_nought}
 
-module _ (a b : List Exponent) (i : ℕ) (so_far : same_all a b ≡ same_all (drop i a) (drop i b)) where
-  module _ (x y : Exponent) (h : i < length a) (k : i < length b) where
-    turn : same_all a b ≡ (same (get_or a i x) (get_or b i y) && same_all (drop (i + 1) a) (drop (i + 1) b))
-    unfolding same_all
-    turn = so_far ∙ ap₂ same_all (rest a x i h) (rest b y i k)
-
-    pub same_on : same (get_or a i x) (get_or b i y) ≡ true → same_all a b ≡ same_all (drop (i + 1) a) (drop (i + 1) b)
-    same_on e = turn ∙ ap (λ t. t && same_all (drop (i + 1) a) (drop (i + 1) b)) e
-
-    pub same_off : same (get_or a i x) (get_or b i y) ≡ false → false ≡ same_all a b
-    same_off e = sym (turn ∙ ap (λ t. t && same_all (drop (i + 1) a) (drop (i + 1) b)) e)
-
-  pub same_end : length a ≤ i → length b ≤ i → true ≡ same_all a b
-  unfolding same_all
-  same_end h k = sym (so_far ∙ ap₂ same_all (drop_of_length-le a h) (drop_of_length-le b k))
-
-module _ (a : List Exponent) (i : ℕ) (so_far : all_nought a ≡ all_nought (drop i a)) where
-  module _ (x : Exponent) (h : i < length a) where
-    turn-zero : all_nought a ≡ (same (get_or a i x) nought && all_nought (drop (i + 1) a))
-    unfolding all_nought
-    turn-zero = so_far ∙ ap all_nought (rest a x i h)
-
-    pub zero_on : same (get_or a i x) nought ≡ true → all_nought a ≡ all_nought (drop (i + 1) a)
-    zero_on e = turn-zero ∙ ap (λ t. t && all_nought (drop (i + 1) a)) e
-
-    pub zero_off : same (get_or a i x) nought ≡ false → false ≡ all_nought a
-    zero_off e = sym (turn-zero ∙ ap (λ t. t && all_nought (drop (i + 1) a)) e)
-
-  pub zero_end : length a ≤ i → true ≡ all_nought a
-  unfolding all_nought
-  zero_end h = sym (so_far ∙ ap all_nought (drop_of_length-le a h))
+-- what `==` answers of two arrays
+pub array_same : (a b : List Exponent) → pointwise (λ (x y : Exponent). int_eq x.num y.num && eqb x.den y.den) a b ≡ same_all a b
+unfolding same_all
+array_same [] [] = refl
+array_same [] (y ∷ b) = refl
+array_same (x ∷ a) [] = refl
+array_same (x ∷ a) (y ∷ b) = ap₂ (λ s t. s && t) (same_eq x y) (array_same a b)
 
 -- ---- the zeros past the base rows make no difference
 noughts : (k : ℕ) → all_nought (replicate k nought) ≡ true

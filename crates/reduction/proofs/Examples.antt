@@ -7,7 +7,7 @@ use lib.Dec.{ltb, eqb}
 use lib.IntN.{ℤ, pos, negsuc}
 use lib.Ieee.{Float, binary64, nan, mul, div, eq, le, to_bits, of_bits}
 use lib.ListN.{get_or}
-use Rattle.exponents.specs.Outcome.{Outcome, given, refused, RANGE, FRACTION, each, apply}
+use Rattle.exponents.specs.Outcome.{Outcome, Ok, Err, RANGE, FRACTION, each, apply}
 use Rattle.exponents.specs.Fractions.{nought}
 use Rattle.exponents.specs.Held.{worked}
 use Rattle.exponents.specs.declared.Exponent.{Exponent}
@@ -70,14 +70,14 @@ reduced_as l = apply (λ (p : List Factor × Float). (p.0, to_bits binary64 p.1)
 -- newton; its half, which isn't whole, and that of a millinewton, which is exactly 1; kilometre per hour; minute squared; what cancels, and the scalar; RANGE before FRACTION
 lists : List Row
 lists =
-    (to 3 (pos 1) ∷ [], given (to 0 (pos 1) ∷ to 1 (pos 1) ∷ to 2 (negsuc 1) ∷ [], 0x408f_4000_0000_0000))
-    ∷ (with (pos 0) 3 (pos 1) 2 ∷ [], refused FRACTION)
-    ∷ (with (negsuc 2) 3 (pos 1) 2 ∷ [], given (with (pos 0) 0 (pos 1) 2 ∷ with (pos 0) 1 (pos 1) 2 ∷ to 2 (negsuc 0) ∷ [], 0x3ff0_0000_0000_0000))
-    ∷ (with (pos 3) 1 (pos 1) 1 ∷ to 5 (negsuc 0) ∷ [], given (to 1 (pos 1) ∷ to 2 (negsuc 0) ∷ [], 0x3fd1_c71c_71c7_1c72))
-    ∷ (to 4 (pos 1) ∷ to 4 (pos 1) ∷ [], given (to 2 (pos 2) ∷ [], 0x40ac_2000_0000_0000))
-    ∷ (to 1 (pos 1) ∷ to 1 (negsuc 0) ∷ [], given ([], 0x3ff0_0000_0000_0000))
-    ∷ ([], given ([], 0x3ff0_0000_0000_0000))
-    ∷ (with (pos 0) 3 (pos 1) 2 ∷ to 2 (pos 2147483647) ∷ to 2 (pos 2) ∷ [], refused RANGE)
+    (to 3 (pos 1) ∷ [], Ok (to 0 (pos 1) ∷ to 1 (pos 1) ∷ to 2 (negsuc 1) ∷ [], 0x408f_4000_0000_0000))
+    ∷ (with (pos 0) 3 (pos 1) 2 ∷ [], Err FRACTION)
+    ∷ (with (negsuc 2) 3 (pos 1) 2 ∷ [], Ok (with (pos 0) 0 (pos 1) 2 ∷ with (pos 0) 1 (pos 1) 2 ∷ to 2 (negsuc 0) ∷ [], 0x3ff0_0000_0000_0000))
+    ∷ (with (pos 3) 1 (pos 1) 1 ∷ to 5 (negsuc 0) ∷ [], Ok (to 1 (pos 1) ∷ to 2 (negsuc 0) ∷ [], 0x3fd1_c71c_71c7_1c72))
+    ∷ (to 4 (pos 1) ∷ to 4 (pos 1) ∷ [], Ok (to 2 (pos 2) ∷ [], 0x40ac_2000_0000_0000))
+    ∷ (to 1 (pos 1) ∷ to 1 (negsuc 0) ∷ [], Ok ([], 0x3ff0_0000_0000_0000))
+    ∷ ([], Ok ([], 0x3ff0_0000_0000_0000))
+    ∷ (with (pos 0) 3 (pos 1) 2 ∷ to 2 (pos 2147483647) ∷ to 2 (pos 2) ∷ [], Err RANGE)
     ∷ []
 
 reductions_known : map (λ (r : Row). reduced_as r.0) lists ≡ map (λ (r : Row). r.1) lists
@@ -91,13 +91,13 @@ Pair = List Factor × List Factor
 -- lesser, greater, equal; a NaN on either side; refusals: the first unit's before the second's, RANGE before FRACTION
 pairs : List (Pair × Outcome Bool)
 pairs =
-    ((to 4 (pos 1) ∷ [], to 5 (pos 1) ∷ []), given true)
-    ∷ ((to 5 (pos 1) ∷ [], to 4 (pos 1) ∷ []), given false)
-    ∷ ((to 5 (pos 1) ∷ [], to 4 (pos 2) ∷ []), given true)
-    ∷ ((to 6 (pos 1) ∷ [], to 4 (pos 1) ∷ []), given false)
-    ∷ ((to 4 (pos 1) ∷ [], to 6 (pos 1) ∷ []), given false)
-    ∷ ((with (pos 0) 3 (pos 1) 2 ∷ [], to 4 (pos 2147483647) ∷ to 2 (pos 1) ∷ []), refused FRACTION)
-    ∷ ((to 4 (pos 1) ∷ [], with (pos 0) 3 (pos 1) 2 ∷ to 1 (pos 2147483647) ∷ []), refused RANGE)
+    ((to 4 (pos 1) ∷ [], to 5 (pos 1) ∷ []), Ok true)
+    ∷ ((to 5 (pos 1) ∷ [], to 4 (pos 1) ∷ []), Ok false)
+    ∷ ((to 5 (pos 1) ∷ [], to 4 (pos 2) ∷ []), Ok true)
+    ∷ ((to 6 (pos 1) ∷ [], to 4 (pos 1) ∷ []), Ok false)
+    ∷ ((to 4 (pos 1) ∷ [], to 6 (pos 1) ∷ []), Ok false)
+    ∷ ((with (pos 0) 3 (pos 1) 2 ∷ [], to 4 (pos 2147483647) ∷ to 2 (pos 1) ∷ []), Err FRACTION)
+    ∷ ((to 4 (pos 1) ∷ [], with (pos 0) 3 (pos 1) 2 ∷ to 1 (pos 2147483647) ∷ []), Err RANGE)
     ∷ []
 
 smaller_known : map (λ (r : Pair × Outcome Bool). smaller_unit rules r.0.0 r.0.1) pairs ≡ map (λ (r : Pair × Outcome Bool). r.1) pairs
@@ -106,10 +106,10 @@ smaller_known = refl
 
 -- ---- multiples
 abbrev whole : ℤ → Outcome Maybe
-whole n = given (times (over n 1))
+whole n = Ok (times (over n 1))
 
 abbrev part : ℤ → ℕ → Outcome Maybe
-part n d = given (times (over n d))
+part n d = Ok (times (over n d))
 
 -- those that the Rust lists; the scalar on either side; newton; RANGE of the quotient, and of a product behind one that differs; a half of newton, which has no FRACTION
 multiples-of : List (Pair × Outcome Maybe)
@@ -120,15 +120,15 @@ multiples-of =
     ∷ ((to 1 (pos 2) ∷ to 2 (pos 2) ∷ [], to 1 (pos 1) ∷ to 2 (pos 1) ∷ []), whole (pos 2))
     ∷ ((to 1 (pos 1) ∷ [], with (pos 3) 1 (pos 1) 1 ∷ []), whole (pos 1))
     ∷ ((to 2 (negsuc 1) ∷ [], to 5 (pos 1) ∷ []), whole (negsuc 1))
-    ∷ ((to 1 (pos 1) ∷ [], to 2 (pos 1) ∷ []), given none)
-    ∷ ((to 1 (pos 1) ∷ [], to 1 (pos 1) ∷ to 2 (pos 1) ∷ []), given none)
-    ∷ ((to 1 (pos 1) ∷ to 2 (pos 2) ∷ [], to 1 (pos 2) ∷ to 2 (pos 2) ∷ []), given none)
-    ∷ (([], to 1 (pos 1) ∷ []), given none)
-    ∷ ((to 1 (pos 1) ∷ [], []), given none)
+    ∷ ((to 1 (pos 1) ∷ [], to 2 (pos 1) ∷ []), Ok none)
+    ∷ ((to 1 (pos 1) ∷ [], to 1 (pos 1) ∷ to 2 (pos 1) ∷ []), Ok none)
+    ∷ ((to 1 (pos 1) ∷ to 2 (pos 2) ∷ [], to 1 (pos 2) ∷ to 2 (pos 2) ∷ []), Ok none)
+    ∷ (([], to 1 (pos 1) ∷ []), Ok none)
+    ∷ ((to 1 (pos 1) ∷ [], []), Ok none)
     ∷ (([], to 6 (pos 1) ∷ []), whole (pos 1))
     ∷ ((to 3 (pos 1) ∷ [], to 2 (negsuc 1) ∷ to 1 (pos 1) ∷ to 0 (pos 1) ∷ []), whole (pos 1))
-    ∷ ((to 0 (pos 2147483647) ∷ [], with (pos 0) 0 (pos 1) 2 ∷ []), refused RANGE)
-    ∷ ((to 0 (pos 2147483647) ∷ to 1 (pos 1) ∷ [], to 0 (pos 1) ∷ to 1 (pos 1) ∷ to 2 (pos 2) ∷ []), refused RANGE)
+    ∷ ((to 0 (pos 2147483647) ∷ [], with (pos 0) 0 (pos 1) 2 ∷ []), Err RANGE)
+    ∷ ((to 0 (pos 2147483647) ∷ to 1 (pos 1) ∷ [], to 0 (pos 1) ∷ to 1 (pos 1) ∷ to 2 (pos 2) ∷ []), Err RANGE)
     ∷ ((with (pos 0) 3 (pos 1) 2 ∷ [], to 3 (pos 1) ∷ []), part (pos 1) 2)
     ∷ []
 

@@ -1,4 +1,4 @@
--- Reduction as the code works it out: one base row more, and the answers of `reduce_list` and `smaller_unit`.
+-- Reduction as the code works it out: one base row more, and the answers of `reduce_list`.
 use mathlib.Core.Path.{◌≡◌, refl, sym, ap, ap₂, subst, ◌∙◌}
 use mathlib.Core.Bool.{Bool, true, false}
 use mathlib.Core.List.{List, [], ◌∷◌, ◌++◌, append-nil}
@@ -6,32 +6,26 @@ use Prim.Native.Nat.{ℕ, ◌+◌, ◌-◌, ◌≤◌, ◌<◌}
 use native.Mathlib.Omega.{arith}
 use native.Mathlib.Numerals.{add-one}
 use lib.IntN.{ℤ}
-use lib.Ieee.{Float, le}
+use lib.Ieee.{Float}
 use lib.ListN.{length, take, get_or, replicate}
 use lib.Seq.{take-suc, take-append_seam, length-take-le}
-use Rattle.exponents.specs.Outcome.{given, apply}
+use Rattle.exponents.specs.Outcome.{Refusal, Outcome, Ok, Err, apply}
 use Rattle.exponents.specs.Fractions.{nought, same}
 use Rattle.exponents.specs.declared.Exponent.{Exponent}
 use Rattle.exponents.proofs.Holds.{bind_given, bind_refused}
-use Rattle.exponents.proofs.Numbers.{Refuses}
 use Rattle.units.specs.declared.Factor.{Factor}
 use Rattle.units.specs.declared.Factors.{Factors}
 use Rattle.units.specs.Lists.{pack}
 use Rattle.units.proofs.Laws.{len_pack}
 use Rattle.tables.specs.declared.Slot.{Slot}
 use Rattle.tables.specs.declared.Slots.{Slots}
-use Rattle.tables.specs.declared.rows.Exps.{Exps}
-use Rattle.tables.specs.declared.scales.Scaled.TheVariants.{Value, Refused}
 use Rattle.tables.specs.Lists.{base}
 use Rattle.tables.specs.Rules.{Rules, scale_by}
-use Rattle.tables.specs.Held.{pack_slots, pack_exps, exps_of, scaled_of, View, view_bases, Lends}
+use Rattle.tables.specs.Held.{pack_slots, pack_exps, exps_of, View, view_bases, Lends}
 use Rattle.tables.proofs.Placing.{len_slots}
-use Rattle.tables.proofs.Scaling.{value_given, scale_refuses}
 use Rattle.canonical.specs.Canonical.{drop_if, nonzero}
 use Rattle.canonical.proofs.Judged.{nonzero-short}
-use Rattle.reduction.specs.Reduction.{base_factor, base_factors, reduced, reduction, reduced_scale, smaller_unit, not_reduced, reduced_of}
-use Rattle.reduction.specs.Held.{smaller_of}
-use Rattle.reduction.specs.declared.reduce.Smaller.TheVariants.{First, Second, Refused as NoSmaller}
+use Rattle.reduction.specs.Reduction.{base_factor, base_factors, reduced, reduction, reduced_of}
 
 -- ---- one base row more
 nonzero_join : (l m : List Factor) → nonzero (l ++ m) ≡ nonzero l ++ nonzero m
@@ -111,66 +105,27 @@ reduced-packed slots ss at es p q n =
     zip (s ∷ ss) (e ∷ es) r h = ap (λ l. base_factor s e ∷ l) (zip ss es r (omega arith))
 
 -- the base rows that the code counts
-pub slots_exps : (v : View) (slots : Slots) (ss : List Slot) → slots ≡ pack_slots ss → (fs : List Factor) (x : Exps) → x ≡ exps_of (base (view_bases v slots.len) fs) → x ≡ exps_of (base (view_bases v (length ss)) fs)
+pub slots_exps : (v : View) (slots : Slots) (ss : List Slot) → slots ≡ pack_slots ss → (fs : List Factor) (x : Outcome (List Exponent)) → x ≡ exps_of (base (view_bases v slots.len) fs) → x ≡ exps_of (base (view_bases v (length ss)) fs)
 slots_exps v slots ss p fs x e = e ∙ ap (λ n. exps_of (base (view_bases v n) fs)) (len_slots slots ss p)
 
 pub slots_lend : (v : View) (slots : Slots) (ss : List Slot) → slots ≡ pack_slots ss → {nums : List ℤ} {dens : List ℕ} → Lends v (length ss) nums dens → Lends v slots.len nums dens
 slots_lend v slots ss p {nums} {dens} h = subst (λ n. Lends v n nums dens) (sym (len_slots slots ss p)) h
 
 -- by the rules R
-module _ (R : Rules Float) where
-  module _ (ss : List Slot) (l : List Factor) where
-    -- the base exponents refuse
-    pub reduction_range : (n : ℕ) → Refuses (base R.bases l) n → not_reduced n ≡ reduced_of (reduction R ss l)
+module _ (R : Rules Float) (ss : List Slot) (l : List Factor) where
+  -- the base exponents refuse
+  pub reduction_range : (r : Refusal) → base R.bases l ≡ Err r → Err r ≡ reduced_of (reduction R ss l)
+  unfolding reduction
+  reduction_range r e = sym (ap reduced_of (bind_refused _ e))
+
+  module _ (es : List Exponent) (e : base R.bases l ≡ Ok es) where
+    opened : reduction R ss l ≡ apply (λ s. (reduced ss es, s)) (scale_by R l)
     unfolding reduction
-    reduction_range n r = ap not_reduced (sym r.numbered) ∙ sym (ap reduced_of (bind_refused _ r.is))
+    opened = bind_given _ e
 
-    module _ (es : List Exponent) (e : base R.bases l ≡ given es) where
-      opened : reduction R ss l ≡ apply (λ s. (reduced ss es, s)) (scale_by R l)
-      unfolding reduction
-      opened = bind_given _ e
+    -- the scale refuses
+    pub reduction_fraction : (r : Refusal) → scale_by R l ≡ Err r → Err r ≡ reduced_of (reduction R ss l)
+    reduction_fraction r q = sym (ap reduced_of (opened ∙ ap (apply (λ s. (reduced ss es, s))) q))
 
-      -- the scale refuses
-      pub reduction_fraction : (n : ℕ) → scaled_of (scale_by R l) ≡ Refused n → not_reduced n ≡ reduced_of (reduction R ss l)
-      reduction_fraction n q =
-          let r = scale_refuses (scale_by R l) n q in
-          ap not_reduced (sym r.numbered) ∙ sym (ap reduced_of (opened ∙ ap (apply (λ s. (reduced ss es, s))) r.is))
-
-      pub reduction_given : (u : Factors) (s : Float) → u ≡ pack (reduced ss es) → scaled_of (scale_by R l) ≡ Value s → record { unit = u; scale = s; refusal = 0 } ≡ reduced_of (reduction R ss l)
-      reduction_given u s p q =
-          ap (λ (u : Factors). record { unit = u; scale = s; refusal = 0 }) p
-          ∙ sym (ap reduced_of (opened ∙ ap (apply (λ s. (reduced ss es, s))) (value_given (scale_by R l) s q)))
-
-  -- ---- the scale of a reduced list
-  module _ (l : List Factor) where
-    pub scale_range : (n : ℕ) → Refuses (base R.bases l) n → Refused n ≡ scaled_of (reduced_scale R l)
-    unfolding reduced_scale
-    scale_range n r = ap Refused (sym r.numbered) ∙ sym (ap scaled_of (bind_refused _ r.is))
-
-    pub scale_after : (es : List Exponent) → base R.bases l ≡ given es → scaled_of (scale_by R l) ≡ scaled_of (reduced_scale R l)
-    unfolding reduced_scale
-    scale_after es e = sym (ap scaled_of (bind_given _ e))
-
-  -- ---- which is smaller
-  module _ (l m : List Factor) where
-    pub first_refused : (n : ℕ) → scaled_of (reduced_scale R l) ≡ Refused n → NoSmaller n ≡ smaller_of (smaller_unit R l m)
-    unfolding smaller_unit
-    first_refused n e = let r = scale_refuses (reduced_scale R l) n e in ap NoSmaller (sym r.numbered) ∙ sym (ap smaller_of (bind_refused _ r.is))
-
-    module _ (s : Float) (e : scaled_of (reduced_scale R l) ≡ Value s) where
-      compared : smaller_unit R l m ≡ apply (le s) (reduced_scale R m)
-      unfolding smaller_unit
-      compared = bind_given _ (value_given (reduced_scale R l) s e)
-
-      pub second_refused : (n : ℕ) → scaled_of (reduced_scale R m) ≡ Refused n → NoSmaller n ≡ smaller_of (smaller_unit R l m)
-      second_refused n q = let r = scale_refuses (reduced_scale R m) n q in ap NoSmaller (sym r.numbered) ∙ sym (ap smaller_of (compared ∙ ap (apply (le s)) r.is))
-
-      module _ (t : Float) (q : scaled_of (reduced_scale R m) ≡ Value t) where
-        decided : (b : Bool) → le s t ≡ b → smaller_unit R l m ≡ given b
-        decided b h = compared ∙ ap (apply (le s)) (value_given (reduced_scale R m) t q) ∙ ap given h
-
-        pub first_smaller : le s t ≡ true → First ≡ smaller_of (smaller_unit R l m)
-        first_smaller h = sym (ap smaller_of (decided true h))
-
-        pub second_smaller : le s t ≡ false → Second ≡ smaller_of (smaller_unit R l m)
-        second_smaller h = sym (ap smaller_of (decided false h))
+    pub reduction_given : (u : Factors) (s : Float) → u ≡ pack (reduced ss es) → scale_by R l ≡ Ok s → Ok (record { unit = u; scale = s }) ≡ reduced_of (reduction R ss l)
+    reduction_given u s p q = ap (λ (u : Factors). Ok (record { unit = u; scale = s })) p ∙ sym (ap reduced_of (opened ∙ ap (apply (λ s. (reduced ss es, s))) q))

@@ -5,18 +5,16 @@ use mathlib.Core.List.{List, [], ◌∷◌, ◌++◌}
 use Prim.Native.Nat.{ℕ, zero, suc, ◌-◌, ◌<◌}
 use native.Mathlib.Omega.{arith}
 use lib.ListN.{length, get_or, replicate, get_or-append}
-use Rattle.exponents.specs.Outcome.{Outcome, given, bind, each}
+use Rattle.exponents.specs.Outcome.{Refusal, Outcome, Ok, Err, bind, each}
 use Rattle.exponents.specs.Fractions.{nought, unit, same_z, same, faulty, mul?, div?}
 use Rattle.exponents.specs.declared.Exponent.{Exponent}
 use Rattle.exponents.proofs.Holds.{bind_given, bind_refused, either}
-use Rattle.exponents.proofs.Numbers.{Refuses}
 use Rattle.units.specs.declared.Factor.{Factor}
 use Rattle.tables.specs.Lists.{base}
 use Rattle.exponents.specs.Words.{pick}
 use Rattle.tables.specs.Held.{pack_exps}
 use Rattle.canonical.specs.Canonical.{same_all, all_nought}
-use Rattle.reduction.specs.Multiple.{Maybe, times, none, first_base, fits, multiple_of, is_multiple, multiple_is}
-use Rattle.reduction.specs.declared.multiples.Multiple.TheVariants.{Refused as NoMultiple}
+use Rattle.reduction.specs.Multiple.{Maybe, times, none, first_base, fits, multiple_of, is_multiple}
 use Rattle.reduction.proofs.Compared.{packed-same, packed-nought}
 use Rattle.reduction.proofs.Fitting.{zero-product, quotient_sound, fits_from, fits_start, fits_cons, and_true}
 
@@ -54,7 +52,7 @@ stays (x ∷ es) r h = go (same x nought) h (stays es r)
 
 -- ---- `multiple_of` by its tests
 abbrev cased : Bool → Bool → Exponent → Exponent → (Exponent → Outcome Maybe) → Outcome Maybe
-cased s t x y f = pick s (given (times unit)) (pick (t || same y nought) (given none) (bind (div? x y) f))
+cased s t x y f = pick s (Ok (times unit)) (pick (t || same y nought) (Ok none) (bind (div? x y) f))
 
 by_cases : (xs ys : List Exponent) → multiple_of xs ys ≡ cased (same_all xs ys) (all_nought xs) (get_or xs (first_base xs) nought) (get_or ys (first_base xs) nought) (fits xs ys)
 unfolding multiple_of
@@ -63,7 +61,7 @@ by_cases xs ys = refl
 -- the quotient keeps its rule
 cased_by : (s t : Bool) (x y : Exponent) (f g : Exponent → Outcome Maybe) → ((q : Exponent) → faulty q ≡ false → f q ≡ g q) → cased s t x y f ≡ cased s t x y g
 cased_by s t x y f g h =
-    ap (λ o. pick s (given (times unit)) (pick (t || same y nought) (given none) o))
+    ap (λ o. pick s (Ok (times unit)) (pick (t || same y nought) (Ok none) o))
     (either (div? x y) (λ q e. bind_given f e ∙ h q (quotient_sound x y q e) ∙ sym (bind_given g e)) (λ r e. bind_refused f e ∙ sym (bind_refused g e)))
 
 module _ (k : ℕ) (es fs : List Exponent) (n : length es ≡ length fs) where
@@ -99,15 +97,15 @@ packed-multiple es fs n =
 
 -- ---- of two lists
 module _ (bs : List (ℕ → Exponent)) (fs gs : List Factor) where
-  pub first_range : (n : ℕ) → Refuses (base bs fs) n → NoMultiple n ≡ multiple_is (is_multiple bs fs gs)
+  pub first_range : (r : Refusal) → base bs fs ≡ Err r → Err r ≡ is_multiple bs fs gs
   unfolding is_multiple
-  first_range n r = ap NoMultiple (sym r.numbered) ∙ sym (ap multiple_is (bind_refused _ r.is))
+  first_range r e = sym (bind_refused _ e)
 
-  module _ (xs : List Exponent) (e : base bs fs ≡ given xs) where
-    pub second_range : (n : ℕ) → Refuses (base bs gs) n → NoMultiple n ≡ multiple_is (is_multiple bs fs gs)
+  module _ (xs : List Exponent) (e : base bs fs ≡ Ok xs) where
+    pub second_range : (r : Refusal) → base bs gs ≡ Err r → Err r ≡ is_multiple bs fs gs
     unfolding is_multiple
-    second_range n r = ap NoMultiple (sym r.numbered) ∙ sym (ap multiple_is (bind_given _ e ∙ bind_refused _ r.is))
+    second_range r q = sym (bind_given _ e ∙ bind_refused _ q)
 
-    pub both_given : (ys p q : List Exponent) → base bs gs ≡ given ys → length xs ≡ length ys → p ≡ pack_exps xs → q ≡ pack_exps ys → multiple_is (multiple_of p q) ≡ multiple_is (is_multiple bs fs gs)
+    pub both_given : (ys : List Exponent) → base bs gs ≡ Ok ys → length xs ≡ length ys → multiple_of (pack_exps xs) (pack_exps ys) ≡ is_multiple bs fs gs
     unfolding is_multiple
-    both_given ys p q f n a b = ap multiple_is (ap₂ multiple_of a b ∙ packed-multiple xs ys n ∙ sym (bind_given _ e ∙ bind_given _ f))
+    both_given ys f n = packed-multiple xs ys n ∙ sym (bind_given _ e ∙ bind_given _ f)

@@ -1,8 +1,7 @@
 -- Reduction (01, "Powers and scales") and the smaller of two units (01, "The refusals", "Conversion, sums, comparison").
-use Rattle.std.specs.Prelude.{Bool, List, [], ◌∷◌, ℕ, pos, Float}
-use Rattle.std.specs.Float.{binary64}
-use Rattle.std.specs.Float.Ieee.{of_bits, le}
-use Rattle.exponents.specs.Outcome.{Outcome, given, refused, number, apply, bind}
+use Rattle.std.specs.Prelude.{Bool, List, [], ◌∷◌, pos, Float}
+use Rattle.std.specs.Float.Ieee.{le}
+use Rattle.exponents.specs.Outcome.{Outcome, apply, bind}
 use Rattle.exponents.specs.declared.Exponent.{Exponent}
 use Rattle.units.specs.declared.Prefix.TheVariants.{Metric}
 use Rattle.units.specs.declared.Factor.{Factor}
@@ -41,10 +40,6 @@ module _ (R : Rules Float) where
   unfoldable pub smaller_unit : List Factor → List Factor → Outcome Bool
   smaller_unit l m = bind (reduced_scale l) (λ s. apply (le s) (reduced_scale m))
 
--- the empty list and value bits zero beside a refusal's number
-abbrev pub not_reduced : ℕ → Reduced
-not_reduced n = record { unit = pack []; scale = of_bits binary64 0; refusal = n }
-
-abbrev pub reduced_of : Outcome (List Factor × Float) → Reduced
-reduced_of (given p) = record { unit = pack p.0; scale = p.1; refusal = 0 }
-reduced_of (refused r) = not_reduced (number r)
+-- a reduced list and its scale, as code holds them
+abbrev pub reduced_of : Outcome (List Factor × Float) → Outcome Reduced
+reduced_of = apply (λ p. record { unit = pack p.0; scale = p.1 })

@@ -2,11 +2,10 @@
 use mathlib.Core.Path.{◌≡◌, refl, sym, ap, ◌∙◌}
 use mathlib.Core.Bool.{true, false}
 use mathlib.Core.List.{List, [], ◌++◌}
-use Prim.Native.Nat.{ℕ}
 use lib.ListN.{length}
-use Rattle.exponents.specs.Outcome.{Outcome, given, apply, bind}
-use Rattle.exponents.proofs.Holds.{bind_given, bind_refused}
-use Rattle.exponents.proofs.Numbers.{Refuses, struct_answers, struct_refuses}
+use Rattle.exponents.specs.Outcome.{Refusal, Outcome, Ok, Err, apply, bind}
+use Rattle.exponents.proofs.Holds.{bind_given, bind_refused, one_answer}
+use Rattle.exponents.proofs.Numbers.{clash, apply_refuses}
 use Rattle.units.specs.declared.Factor.{Factor}
 use Rattle.units.specs.declared.Factors.{Factors}
 use Rattle.units.specs.declared.Candidates.{Candidates}
@@ -19,10 +18,7 @@ use Rattle.tables.specs.Held.{view_of, Resolved}
 use Rattle.resolution.specs.Held.{resolved_of}
 use Rattle.resolution.specs.declared.Resolved.{Resolved as Both}
 use Rattle.resolution.proofs.Viewed.{first-named, view_placed}
-use Rattle.lists.proofs.Ends.{bind_refuses}
-use Rattle.values.specs.Quantities.{made, answered_of}
-use Rattle.values.specs.declared.answers.Answer.{Answer}
-use Rattle.quantities.proofs.Converting.{refuses_as}
+use Rattle.values.specs.Quantities.{made}
 use Rattle.tables.specs.Rules.{rules_in}
 use Rattle.simplification.specs.Steps.{Amount, quantity_of, simplify}
 use Rattle.lists.proofs.Checks.{both_none, alone as alone-list}
@@ -35,79 +31,63 @@ use Rattle.registry.proofs.Looking.{passed_resolved}
 -- the list that was given, and as code has it
 pub record Alone (ks : List Facts) (a : Factors) (x : Both) : Type 0 where
   pub fs : List Factor
-  pub is : checked (length ks) a ≡ given fs
+  pub is : checked (length ks) a ≡ Ok fs
   pub has : Resolved (view_of ks (fs ++ [])) x.a fs
 
-module _ (ks : List Facts) (a none : Factors) (x : Both) (n : none ≡ pack []) (e : x ≡ resolved_of ks (both (length ks) a none)) where
-  abbrev hand : Outcome (List Factor) → Both
+module _ (ks : List Facts) (a none : Factors) (n : none ≡ pack []) where
+  abbrev hand : Outcome (List Factor) → Outcome Both
   hand o = resolved_of ks (apply alone-list o)
 
-  handed : x ≡ hand (checked (length ks) a)
-  handed = e ∙ ap (λ (l : Factors). resolved_of ks (both (length ks) a l)) n ∙ ap (resolved_of ks) (both_none (length ks) a)
+  handed : resolved_of ks (both (length ks) a none) ≡ hand (checked (length ks) a)
+  handed = ap (λ (l : Factors). resolved_of ks (both (length ks) a l)) n ∙ ap (resolved_of ks) (both_none (length ks) a)
 
-  pub alone_refuses : (x.refusal ≡ 0 → ⊥) → Refuses (checked (length ks) a) x.refusal
-  alone_refuses = struct_refuses hand (λ (y : Both). y.refusal) (λ fs. refl) (λ r. refl) (checked (length ks) a) x handed
+  pub alone_refuses : (r : Refusal) → Err r ≡ resolved_of ks (both (length ks) a none) → checked (length ks) a ≡ Err r
+  alone_refuses r e = apply_refuses alone-list _ r (apply_refuses _ _ r (sym (e ∙ handed)))
 
-  pub alone : x.refusal ≡ 0 → Alone ks a x
-  alone h =
-      let o = struct_answers hand (λ (y : Both). y.refusal) (λ fs. refl) (λ r. refl) (checked (length ks) a) x handed h in
-      record { fs = o.answer; is = o.is; has = passed_resolved (listed o.is) (view_placed ks (o.answer ++ [])) (first-named o.answer []) (ap (λ (y : Both). y.a) (handed ∙ ap hand o.is)) }
+  pub alone : (x : Both) → Ok x ≡ resolved_of ks (both (length ks) a none) → Alone ks a x
+  alone x e = go (checked (length ks) a) refl (e ∙ handed)
+    where
+      go : (o : Outcome (List Factor)) → checked (length ks) a ≡ o → Ok x ≡ hand o → Alone ks a x
+      go (Ok fs) w h = record { fs = fs; is = w; has = passed_resolved (listed w) (view_placed ks (fs ++ [])) (first-named fs []) (ap (λ (y : Both). y.a) (one_answer h)) }
+      go (Err r) w h = absurd (clash h)
 
--- ---- what is left after the three steps
-pub record Stepped (o : Outcome Amount) (x : Answer) : Type 0 where
-  pub amount : Amount
-  pub is : o ≡ given amount
-  pub has : x.quantity ≡ quantity_of amount
-
--- as code hands it over
-abbrev answer : Outcome Amount → Answer
-answer o = answered_of (apply quantity_of o)
-
-module _ (o : Outcome Amount) (x : Answer) (e : x ≡ answer o) where
-  pub stepped : x.refusal ≡ 0 → Stepped o x
-  stepped h =
-      let a = struct_answers answer (λ (y : Answer). y.refusal) (λ a. refl) (λ r. refl) o x e h in
-      record { amount = a.answer; is = a.is; has = ap (λ (y : Answer). y.quantity) (e ∙ ap answer a.is) }
-
-  -- a refusal stays
-  pub none_left : (f : Amount → Outcome Amount) → (x.refusal ≡ 0 → ⊥) → x ≡ answer (bind o f)
-  none_left f h =
-      let r = struct_refuses answer (λ (y : Answer). y.refusal) (λ a. refl) (λ r. refl) o x e h in
-      e ∙ ap answer (r.is ∙ sym (bind_refused f r.is))
+-- ---- what is left after the three steps: a refusal stays
+pub none_left : (o : Outcome Amount) (f : Amount → Outcome Amount) (r : Refusal) → Err r ≡ apply quantity_of o → Err r ≡ apply quantity_of (bind o f)
+none_left o f r e = sym (ap (apply quantity_of) (bind_refused f (apply_refuses quantity_of o r (sym e))))
 
 -- ---- the call
 module _ (t : Rows) (q : Quantity) (c : Candidates) where
-  pub table_stops : (n : ℕ) → Refuses (table t) n → Refuses (full_simplify_with t q c) n
+  pub table_stops : (r : Refusal) → table t ≡ Err r → full_simplify_with t q c ≡ Err r
   unfolding full_simplify_with
-  table_stops n r = bind_refuses (table t) _ n r
+  table_stops r e = bind_refused _ e
 
-  module _ (ks : List Facts) (k : table t ≡ given ks) where
+  module _ (ks : List Facts) (k : table t ≡ Ok ks) where
     -- what the call does with the lists
     abbrev work : List Factor → List (List Factor) → Outcome Quantity
     work fs ms =
         pick q.mark (apply quantity_of (bind (simplify (rules_in t ks) q.value fs) (registered (rules_in t ks) (base_rows t) ms)))
-        (given (made false q.value fs))
+        (Ok (made false q.value fs))
 
     tabled : full_simplify_with t q c ≡ bind (checked (length ks) q.unit) (λ fs. bind (candidate_lists (length ks) c) (λ ms. work fs ms))
     unfolding full_simplify_with
     tabled = bind_given _ k
 
-    pub list_stops : (n : ℕ) → Refuses (checked (length ks) q.unit) n → Refuses (full_simplify_with t q c) n
-    list_stops n r = refuses_as _ _ n tabled (bind_refuses _ _ n r)
+    pub list_stops : (r : Refusal) → checked (length ks) q.unit ≡ Err r → full_simplify_with t q c ≡ Err r
+    list_stops r e = tabled ∙ bind_refused _ e
 
-    module _ (fs : List Factor) (l : checked (length ks) q.unit ≡ given fs) where
+    module _ (fs : List Factor) (l : checked (length ks) q.unit ≡ Ok fs) where
       with_list : full_simplify_with t q c ≡ bind (candidate_lists (length ks) c) (λ ms. work fs ms)
       with_list = tabled ∙ bind_given _ l
 
-      pub candidates_stop : (n : ℕ) → Refuses (candidate_lists (length ks) c) n → Refuses (full_simplify_with t q c) n
-      candidates_stop n r = refuses_as _ _ n with_list (bind_refuses _ _ n r)
+      pub candidates_stop : (r : Refusal) → candidate_lists (length ks) c ≡ Err r → full_simplify_with t q c ≡ Err r
+      candidates_stop r e = with_list ∙ bind_refused _ e
 
-      module _ (ms : List (List Factor)) (g : candidate_lists (length ks) c ≡ given ms) where
+      module _ (ms : List (List Factor)) (g : candidate_lists (length ks) c ≡ Ok ms) where
         worked : full_simplify_with t q c ≡ work fs ms
         worked = with_list ∙ bind_given _ g
 
         -- without the mark
-        pub unmarked : q.mark ≡ false → full_simplify_with t q c ≡ given (made false q.value fs)
+        pub unmarked : q.mark ≡ false → full_simplify_with t q c ≡ Ok (made false q.value fs)
         unmarked h = worked ∙ rw h
 
         pub marked : q.mark ≡ true → full_simplify_with t q c ≡ apply quantity_of (bind (simplify (rules_in t ks) q.value fs) (registered (rules_in t ks) (base_rows t) ms))

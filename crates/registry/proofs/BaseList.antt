@@ -5,7 +5,7 @@ use Prim.Native.Nat.{ℕ, ◌≤◌, ◌<◌}
 use native.Mathlib.Omega.{arith}
 use borrow.Author.Tests.{lt-ltb}
 use lib.ListN.{length}
-use Rattle.exponents.specs.Outcome.{given}
+use Rattle.exponents.specs.Outcome.{Ok}
 use Rattle.exponents.specs.Fractions.{nought, same}
 use Rattle.exponents.specs.declared.Exponent.{Exponent}
 use Rattle.exponents.proofs.Holds.{take_out}
@@ -36,7 +36,7 @@ base-rows_there t ks e =
     all_imp (base_rows t) (λ s p. omega (arith, p.0)) (slots-base (rows_of t) nil_row)
 
 -- ---- base exponents that are worked out keep their rule
-base_sound : (bs : List (ℕ → Exponent)) (l : List Factor) (xs : List Exponent) → base bs l ≡ given xs → All Sound xs
+base_sound : (bs : List (ℕ → Exponent)) (l : List Factor) (xs : List Exponent) → base bs l ≡ Ok xs → All Sound xs
 unfolding base
 base_sound bs l xs e = along_all (take_out (each_holds {R = λ b x. Sound x} (base_at l) (base_at_sound l) bs) e)
 
@@ -57,7 +57,7 @@ module _ (t : Rows) (xs : List Exponent) where
   pub base_list_few : length (reduced (base_rows t) xs) ≤ 16
   base_list_few = omega (arith, reduced-short (base_rows t) xs, slots_few (rows_of t))
 
-  pub base_list_checked : (ks : List Facts) (bs : List (ℕ → Exponent)) (l : List Factor) → admit t ≡ admitted ks → base bs l ≡ given xs → checked (length ks) (pack (reduced (base_rows t) xs)) ≡ given (reduced (base_rows t) xs)
+  pub base_list_checked : (ks : List Facts) (bs : List (ℕ → Exponent)) (l : List Factor) → admit t ≡ admitted ks → base bs l ≡ Ok xs → checked (length ks) (pack (reduced (base_rows t) xs)) ≡ Ok (reduced (base_rows t) xs)
   base_list_checked ks bs l a e =
       passed_checked (length ks) (reduced (base_rows t) xs)
       (base_list_few, reduced-all (λ s. s.row < length ks) Sound (Passes (length ks)) (factor_passes (length ks)) (base_rows t) xs (base-rows_there t ks a) (base_sound bs l xs e))

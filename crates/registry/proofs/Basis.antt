@@ -6,7 +6,7 @@ use native.Mathlib.Nat as nat
 use native.Mathlib.Omega.{arith}
 use borrow.Author.Tests.{eq-eqb, ne_eqb}
 use lib.ListN.{length, get_or}
-use Rattle.exponents.specs.Outcome.{given}
+use Rattle.exponents.specs.Outcome.{Ok}
 use Rattle.exponents.specs.Fractions.{nought, unit}
 use Rattle.exponents.specs.declared.Exponent.{Exponent}
 use Rattle.exponents.proofs.Exact.{mul-unit, unit_low}
@@ -84,7 +84,7 @@ module _ (t : Rows) (ks : List Facts) (e : admit t ≡ admitted ks) where
   counts j h = all_imp (base_rows t) (λ s p. ap (λ l. get_or l j nought) p ∙ get_map (self_exp s.row) (base_rows t) j no_slot nought h) self_exps
 
   -- THEOREM: the list reduced agrees with the list
-  pub reduced_agrees : (l : List Factor) (xs : List Exponent) → base (rules_in t ks).bases l ≡ given xs → Agree value (rules_in t ks).bases l (reduced (base_rows t) xs)
+  pub reduced_agrees : (l : List Factor) (xs : List Exponent) → base (rules_in t ks).bases l ≡ Ok xs → Agree value (rules_in t ks).bases l (reduced (base_rows t) xs)
   unfolding reduced
   reduced_agrees l xs p =
       let a = take_out (base_exact value (rules_in t ks).bases l) p in

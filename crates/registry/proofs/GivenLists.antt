@@ -1,5 +1,5 @@
 -- A list that passed its check has at most 16 factors, each of a row that is there; the candidates are checked one by one as the rule says; and each of those given has a list that passed.
-use mathlib.Core.Path.{◌≡◌, sym, ap, ◌∙◌, subst}
+use mathlib.Core.Path.{◌≡◌, refl, sym, ap, ◌∙◌, subst}
 use mathlib.Core.Bool.{false}
 use mathlib.Core.List.{List, [], ◌∷◌}
 use Prim.Native.Nat.{ℕ, zero, suc, ◌+◌, ◌≤◌, ◌<◌}
@@ -7,11 +7,12 @@ use native.Mathlib.Omega.{arith}
 use native.Mathlib.Numerals.{add-one}
 use borrow.Author.Tests.{ltb-false, lt-ltb, le-ltb}
 use lib.Dec.{ltb}
-use lib.ListN.{length, take, drop, get_or, length-take, drop_of_length-le}
+use lib.ListN.{length, take, get_or}
 use lib.Seq.{get_or-take, length-take-le}
-use Rattle.exponents.specs.Outcome.{Outcome, given, SHAPE, unless, apply, bind, refusal_of}
-use Rattle.exponents.proofs.Holds.{Holds, held, take_out, holds_eq, holds_imp, holds_unless, holds_map, holds_bind, bind_given, bind_refused}
-use Rattle.exponents.proofs.Numbers.{refuses, answers, refusal_map}
+use Rattle.std.specs.Ordering.{ord_min, nat_cmp}
+use Rattle.std.proofs.lemmas.Bool.Decides.{nat_tests}
+use Rattle.exponents.specs.Outcome.{Outcome, Ok, Err, SHAPE, unless, apply, bind, tested}
+use Rattle.exponents.proofs.Holds.{Holds, held, take_out, holds_eq, holds_imp, holds_unless, holds_map, holds_bind, one_answer}
 use Rattle.units.specs.declared.Factor.{Factor}
 use Rattle.units.specs.declared.Factors.{Factors}
 use Rattle.units.specs.declared.Candidate.{Candidate}
@@ -21,7 +22,6 @@ use Rattle.units.proofs.Laws.{listed as long-list}
 use Rattle.units.proofs.Checked.{short as list-short, no_fault, passes}
 use Rattle.exponents.proofs.Each.{all_at, Along, done, next, along_length}
 use Rattle.exponents.specs.Words.{All}
-use Rattle.exponents.proofs.Places.{rest}
 use Rattle.simplification.proofs.Sounding.{Passes, row_known, checked_passed}
 use Rattle.registry.specs.Registry.{lists_from, candidate_lists}
 
@@ -39,14 +39,20 @@ pub record Listed (rows : ℕ) (l : Factors) (fs : List Factor) : Type 0 where
   pub shaped : some factor_fault fs ≡ false
   pub pass : All (Passes rows) fs
 
+module _ (rows : ℕ) (l : Factors) (fs : List Factor) (e : checked rows l ≡ Ok fs) where
+  pub given_list : fs ≡ list_of l
+  given_list = one_answer (sym e ∙ passes rows l {u = tt} (sym (ap (λ o. tested o) e)))
+
+  pub given_short : l.len ≤ 16
+  given_short = list-short rows l {u = tt} (sym (ap (λ o. tested o) e))
+
 module _ {rows : ℕ} {l : Factors} {fs : List Factor} where
-  pub listed : checked rows l ≡ given fs → Listed rows l fs
+  pub listed : checked rows l ≡ Ok fs → Listed rows l fs
   listed e =
-      let z = ap refusal_of e in
-      let q : ◌≡◌ {A = Outcome (List Factor)} (given fs) (given (list_of l)) = sym e ∙ passes rows l z in
-      let i : fs ≡ list_of l = cc in
+      let z : Ok tt ≡ tested (checked rows l) = sym (ap (λ o. tested o) e) in
+      let i = given_list rows l fs e in
       let p = take_out (checked_passed rows l) e in
-      record { is = i; short = list-short rows l z; few = p.0; shaped = ap (some factor_fault) i ∙ no_fault rows l z; pass = p.1 }
+      record { is = i; short = given_short rows l fs e; few = p.0; shaped = ap (some factor_fault) i ∙ no_fault rows l z; pass = p.1 }
 
   module _ (g : Listed rows l fs) where
     pub list_long : length l.at ≡ 16 → length fs ≡ l.len
@@ -58,6 +64,10 @@ module _ {rows : ℕ} {l : Factors} {fs : List Factor} where
     pub row_there : (i : ℕ) (d : Factor) → i < length fs → (get_or fs i d).row < rows
     row_there i d h = row_known rows (get_or fs i d) (all_at (Passes rows) fs i d h g.pass)
 
+-- ---- how many candidates there are, of 32 places
+pub all_given : (n m : ℕ) → n ≤ 32 → m ≡ ord_min nat_cmp n 32 → m ≡ n
+all_given n m h e = grind (arith, nat_tests)
+
 -- ---- the candidates checked one by one
 
 -- what a read past the end of an array gives: never met
@@ -68,56 +78,28 @@ nil_candidate = record { unit = record { at = []; len = 0 }; rank = 0 }
 abbrev pub those : Candidates → List Candidate
 those c = take c.len c.at
 
-module _ (rows : ℕ) (c : Candidates) where
-  abbrev fault : ℕ
-  fault = refusal_of (candidate_lists rows c)
+pub none_left : (rows least : ℕ) → tested (lists_from rows least []) ≡ Ok tt
+unfolding lists_from
+none_left rows least = refl
 
-  pub too_many : 32 < c.len → 2 ≡ fault
-  unfolding candidate_lists unless
-  too_many h = rw (lt-ltb 32 c.len h)
+-- one, and those after it
+then_tested : {A B C : Type 0} (o : Outcome A) (f : A → B → C) (p : Outcome B) → tested (bind o (λ a. apply (f a) p)) ≡ bind (tested o) (λ _. tested p)
+unfolding bind
+then_tested (Ok a) f (Ok b) = refl
+then_tested (Ok a) f (Err r) = refl
+then_tested (Err r) f p = refl
 
-  pub not_many : c.len ≤ 32 → refusal_of (lists_from rows 0 (those c)) ≡ fault
-  unfolding candidate_lists unless
-  not_many h = rw (le-ltb 32 c.len h)
+module _ (rows least : ℕ) (x : Candidate) (l : List Candidate) where
+  pub too_low : x.rank < least → tested (lists_from rows least (x ∷ l)) ≡ Err SHAPE
+  unfolding lists_from unless
+  too_low k = rw (lt-ltb x.rank least k)
 
-  -- those before i passed
-  module _ (least i : ℕ) (so_far : refusal_of (lists_from rows least (drop i (those c))) ≡ fault) where
-    pub no_more : length (those c) ≤ i → 0 ≡ fault
-    unfolding lists_from
-    no_more h = sym (ap (λ l. refusal_of (lists_from rows least l)) (drop_of_length-le (those c) h)) ∙ so_far
-
-    module _ (d : Candidate) (h : i < length (those c)) where
-      -- the one at place i
-      abbrev x : Candidate
-      x = get_or c.at i d
-
-      abbrev others : List Factor → Outcome (List (List Factor))
-      others fs = apply (λ ms. fs ∷ ms) (lists_from rows (suc x.rank) (drop (i + 1) (those c)))
-
-      step : refusal_of (unless (ltb x.rank least) SHAPE (bind (checked rows x.unit) others)) ≡ fault
-      unfolding lists_from
-      step =
-          let k : i < c.len = omega (arith, length-take c.len c.at) in
-          sym (ap (λ l. refusal_of (lists_from rows least l)) (rest (those c) d i h ∙ ap (λ y. y ∷ drop (i + 1) (those c)) (get_or-take c.len c.at i d k))) ∙ so_far
-
-      pub out_of_order : x.rank < least → 2 ≡ fault
-      unfolding unless
-      out_of_order k = sym (rw (lt-ltb x.rank least k)) ∙ step
-
-      module _ (k : least ≤ x.rank) (n : ℕ) (e : n ≡ refusal_of (checked rows x.unit)) where
-        in_order : refusal_of (bind (checked rows x.unit) others) ≡ fault
-        unfolding unless
-        in_order = sym (rw (le-ltb x.rank least k)) ∙ step
-
-        pub bad_list_lem : (n ≡ 0 → ⊥) → n ≡ fault
-        bad_list_lem z = let r = refuses (checked rows x.unit) n e z in sym r.numbered ∙ sym (ap refusal_of (bind_refused others r.is)) ∙ in_order
-
-        pub good_list : n ≡ 0 → refusal_of (lists_from rows (x.rank + 1) (drop (i + 1) (those c))) ≡ fault
-        good_list z =
-            let a = answers (checked rows x.unit) n e z in
-            ap (λ m. refusal_of (lists_from rows m (drop (i + 1) (those c)))) (add-one x.rank)
-            ∙ sym (ap refusal_of (bind_given others a.is) ∙ refusal_map _ (lists_from rows (suc x.rank) (drop (i + 1) (those c))))
-            ∙ in_order
+  pub in_order : least ≤ x.rank → tested (lists_from rows least (x ∷ l)) ≡ bind (tested (checked rows x.unit)) (λ _. tested (lists_from rows (x.rank + 1) l))
+  unfolding lists_from unless
+  in_order k =
+      rw (le-ltb x.rank least k)
+      (then_tested (checked rows x.unit) (λ fs ms. fs ∷ ms) (lists_from rows (suc x.rank) l)
+      ∙ ap (λ m. bind (tested (checked rows x.unit)) (λ _. tested (lists_from rows m l))) (sym (add-one x.rank)))
 
 -- ---- the candidates' lists: what holds between each and its list that passed
 module _ (rows : ℕ) (R : Candidate → List Factor → Type 0) (each : (x : Candidate) → Holds (R x) (checked rows x.unit)) where
@@ -130,9 +112,9 @@ module _ (rows : ℕ) (R : Candidate → List Factor → Type 0) (each : (x : Ca
   unfolding candidate_lists
   candidates_hold c = holds_unless (ltb 32 c.len) SHAPE λ t. holds_imp (lists_hold 0 (those c)) λ ms a. (ltb-false 32 c.len t, a)
 
-module _ (rows : ℕ) (c : Candidates) (ms : List (List Factor)) (e : candidate_lists rows c ≡ given ms) where
+module _ (rows : ℕ) (c : Candidates) (ms : List (List Factor)) (e : candidate_lists rows c ≡ Ok ms) where
   abbrev Has : Candidate → List Factor → Type 0
-  Has x fs = checked rows x.unit ≡ given fs
+  Has x fs = checked rows x.unit ≡ Ok fs
 
   given_lists : (c.len ≤ 32) × Along Has (those c) ms
   given_lists = take_out (candidates_hold rows Has (λ x. holds_eq (checked rows x.unit)) c) e
@@ -147,5 +129,5 @@ module _ (rows : ℕ) (c : Candidates) (ms : List (List Factor)) (e : candidate_
     pub candidates_long : length ms ≡ c.len
     candidates_long = along_length given_lists.1 ∙ sized
 
-    pub candidate_at_lem : (i : ℕ) (d : Candidate) (l : List Factor) → i < c.len → checked rows (get_or c.at i d).unit ≡ given (get_or ms i l)
+    pub candidate_at_lem : (i : ℕ) (d : Candidate) (l : List Factor) → i < c.len → checked rows (get_or c.at i d).unit ≡ Ok (get_or ms i l)
     candidate_at_lem i d l h = subst (λ (x : Candidate). Has x (get_or ms i l)) (get_or-take c.len c.at i d h) (along_at given_lists.1 i d l (omega (arith, sized)))

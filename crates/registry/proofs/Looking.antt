@@ -7,13 +7,16 @@ use lib.Ieee.{Float}
 use lib.IntN.{ℤ}
 use lib.ListN.{length, get_or}
 use Rattle.exponents.specs.Words.{All}
-use Rattle.exponents.specs.Outcome.{given, apply}
+use Rattle.std.specs.Prelude.{Result}
+use Rattle.exponents.specs.Outcome.{Refusal, Outcome, Ok, Err, apply}
 use Rattle.exponents.specs.declared.Exponent.{Exponent}
-use Rattle.exponents.proofs.Holds.{bind_given}
+use Rattle.exponents.proofs.Holds.{bind_given, one_answer}
+use Rattle.exponents.proofs.Numbers.{clash}
 use Rattle.units.specs.declared.Factor.{Factor}
 use Rattle.units.specs.declared.Factors.{Factors}
 use Rattle.units.specs.Lists.{both}
 use Rattle.tables.specs.declared.Admitted.{Admitted}
+use Rattle.tables.specs.declared.Rejected.{Rejected}
 use Rattle.tables.specs.declared.Item.{Item}
 use Rattle.tables.specs.declared.Items.{Items}
 use Rattle.tables.specs.Lists.{base}
@@ -29,8 +32,6 @@ use Rattle.reduction.proofs.Compared.{packed-same}
 use Rattle.reduction.proofs.Handed.{base_long}
 use Rattle.lists.proofs.Ends.{slots_len, tells_of}
 use Rattle.conversion.specs.Conversion.{convert}
-use Rattle.conversion.specs.Held.{converted_of}
-use Rattle.conversion.specs.declared.convert.Converted.{Converted}
 use Rattle.quantities.proofs.Ready.{Converts}
 use Rattle.registry.specs.Held.{plain_view, Table, rules_of, Stored, Checks, BaseExps}
 use Rattle.registry.proofs.GivenLists.{Listed, listed}
@@ -49,16 +50,18 @@ plain_item ks l f x y = ap₂ (λ (x : Float) (y : Bool). record { factor = f; s
 
 -- ---- an admitted table
 module _ (tb : Table) where
-  pub rows-known : table tb.rows ≡ given tb.known
+  pub rows-known : table tb.rows ≡ Ok tb.known
   rows-known = ap known tb.admits
 
   pub keyed : Keyed tb.known
   keyed = admit_keyed tb.rows tb.known tb.admits
 
   -- as code hands it over
-  module _ {t : Admitted} {nums : List ℤ} {dens : List ℕ} {scales : List Float} {ranks : List ℕ} {based : List Bool} (a : Admits tb.rows t nums dens scales ranks based) where
-    is : t ≡ admitted_of (base_rows tb.rows) (admitted tb.known)
-    is = a.is ∙ ap (admitted_of (base_rows tb.rows)) tb.admits
+  module _ {t : Admitted} {nums : List ℤ} {dens : List ℕ} {scales : List Float} {ranks : List ℕ} {based : List Bool} (a : Admits tb.rows (Ok t) nums dens scales ranks based) where
+    is : t ≡ record { slots = pack_slots (base_rows tb.rows); len = length tb.known }
+    is =
+        let e : ◌≡◌ {A = Result Admitted Rejected} (Ok t) (admitted_of (base_rows tb.rows) (admitted tb.known)) = a.is ∙ ap (admitted_of (base_rows tb.rows)) tb.admits in
+        cc
 
     pub slots-are : t.slots ≡ pack_slots (base_rows tb.rows)
     slots-are = ap (λ (t : Admitted). t.slots) is
@@ -92,24 +95,28 @@ module _ {tb : Table} {len n : ℕ} {nums : List ℤ} {dens : List ℕ} {scales 
   plain-bases l = ap (λ (R : Rules Float). R.bases) (rules_are l)
 
   -- there is one base exponent for each base row
-  pub base_sized : (ms : List Factor) (ys : List Exponent) → base (rules_of tb).bases ms ≡ given ys → length ys ≡ length (base_rows tb.rows)
+  pub base_sized : (ms : List Factor) (ys : List Exponent) → base (rules_of tb).bases ms ≡ Ok ys → length ys ≡ length (base_rows tb.rows)
   base_sized ms ys e = base_long (plain_view tb.known []) n ms ys (ap (λ bs. base bs ms) (plain-bases []) ∙ e) ∙ g.bases
 
   -- base exponents as code compares them
-  pub bases-same : (ms : List Factor) (ys x y : List Exponent) (b : BaseExps tb y) → base (rules_of tb).bases ms ≡ given ys → x ≡ pack_exps ys → same_all x y ≡ same_all ys b.exps
+  pub bases-same : (ms : List Factor) (ys x y : List Exponent) (b : BaseExps tb y) → base (rules_of tb).bases ms ≡ Ok ys → x ≡ pack_exps ys → same_all x y ≡ same_all ys b.exps
   bases-same ms ys x y b e p = ap₂ same_all p b.are ∙ packed-same ys b.exps (base_sized ms ys e ∙ sym b.sized)
 
   -- two lists that passed, resolved
-  module _ {l m : Factors} (p : Checks tb l) (q : Checks tb m) (o : Both) (e : o ≡ resolved_of tb.known (both (length tb.known) l m)) where
-    pub resolves : o ≡ resolved_of tb.known (given (p.factors, q.factors))
+  module _ {l m : Factors} (p : Checks tb l) (q : Checks tb m) where
+    both_pass : both (length tb.known) l m ≡ Ok (p.factors, q.factors)
     unfolding both
-    resolves = e ∙ ap (resolved_of tb.known) (bind_given _ p.is ∙ ap (apply (λ gs. (p.factors, gs))) q.is)
+    both_pass = bind_given _ p.is ∙ ap (apply (λ gs. (p.factors, gs))) q.is
+
+    pub not_refused : (r : Refusal) → Err r ≡ resolved_of tb.known (both (length tb.known) l m) → ⊥
+    not_refused r e = clash (sym (e ∙ ap (resolved_of tb.known) both_pass))
 
     -- a conversion between them is by the table's rules
-    pub converts : (x : Float) (c : Converted) → Converts nums dens x o.a o.b n c → c ≡ converted_of (convert (rules_of tb) p.factors q.factors x)
-    converts x c h =
+    pub converts : (o : Both) → Ok o ≡ resolved_of tb.known (both (length tb.known) l m) → (x : Float) (c : Outcome Float) → Converts nums dens x o.a o.b n c → c ≡ convert (rules_of tb) p.factors q.factors x
+    converts o e x c h =
         let fs = p.factors ++ q.factors in
+        let resolves = one_answer (e ∙ ap (resolved_of tb.known) both_pass) in
         h (view_of tb.known fs) p.factors q.factors (lends_rows fs)
         (passed_resolved (listed p.is) (view_placed tb.known fs) (first-named p.factors q.factors) (ap (λ (o : Both). o.a) resolves))
         (passed_resolved (listed q.is) (view_placed tb.known fs) (second-named p.factors q.factors) (ap (λ (o : Both). o.b) resolves))
-        ∙ ap (λ R. converted_of (convert R p.factors q.factors x)) (rules_are fs)
+        ∙ ap (λ R. convert R p.factors q.factors x) (rules_are fs)

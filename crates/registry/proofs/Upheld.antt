@@ -6,7 +6,7 @@ use Prim.Native.Nat.{ℕ}
 use lib.Dec.{ltb, eqb}
 use lib.Ieee.{Float}
 use lib.ListN.{length}
-use Rattle.exponents.specs.Outcome.{Refusal, FRACTION, Outcome, given, apply}
+use Rattle.exponents.specs.Outcome.{Refusal, FRACTION, Outcome, Ok, apply}
 use Rattle.exponents.specs.declared.Exponent.{Exponent}
 use Rattle.exponents.proofs.Holds.{holds_all, Holds, held, Only, fine, take_out, holds_any, holds_eq, holds_imp, holds_map, holds_bind, only_map, only_bind}
 use Rattle.exponents.proofs.Halves.{OutOfRange}
@@ -79,7 +79,7 @@ module _ (R : Rules Float) (now : Amount) where
       chosen_has best (m ∷ ms) h b = holds_bind _ (turn_has best m h.0 b) λ w p. after_has w _ p λ c q. chosen_has c ms h.1 q
 
     registered_has : (ss : List Slot) (ms : List (List Factor)) → P now →
-        ((xs : List Exponent) → base R.bases now.1 ≡ given xs → Converts (reduced ss xs) × ((s : Float) → All (Takes xs s) ms)) →
+        ((xs : List Exponent) → base R.bases now.1 ≡ Ok xs → Converts (reduced ss xs) × ((s : Float) → All (Takes xs s) ms)) →
         Holds P (registered R ss ms now)
     unfolding registered settled
     registered_has ss ms p f =
@@ -91,7 +91,7 @@ module _ (R : Rules Float) (now : Amount) where
         (held p)
 
     -- whichever candidate is taken
-    pub registered_any : (ss : List Slot) (ms : List (List Factor)) → P now → ((xs : List Exponent) → base R.bases now.1 ≡ given xs → Converts (reduced ss xs)) → All Converts ms → Holds P (registered R ss ms now)
+    pub registered_any : (ss : List Slot) (ms : List (List Factor)) → P now → ((xs : List Exponent) → base R.bases now.1 ≡ Ok xs → Converts (reduced ss xs)) → All Converts ms → Holds P (registered R ss ms now)
     registered_any ss ms p f h = registered_has ss ms p λ xs e. (f xs e, λ s. all_imp ms (λ m c. holds_imp (holds_any (fitting R (length now.1) xs s m)) λ _ _ _. c) h)
 
   -- of the list alone
@@ -99,7 +99,7 @@ module _ (R : Rules Float) (now : Amount) where
   on_list P m p = holds_imp (holds_any (convert R now.1 m now.0)) λ _ _. p
 
   -- ---- base exponents: xs are those of what is left
-  module _ (xs : List Exponent) (e : base R.bases now.1 ≡ given xs) where
+  module _ (xs : List Exponent) (e : base R.bases now.1 ≡ Ok xs) where
     pub fitting_agrees : (s : Float) (m : List Factor) → Holds (λ fits. fits ≡ true → Agree value R.bases now.1 m) (fitting R (length now.1) xs s m)
     unfolding fitting
     fitting_agrees s m =
@@ -111,7 +111,7 @@ module _ (R : Rules Float) (now : Amount) where
         none)
         none
       where
-        none : Holds (λ fits. fits ≡ true → Agree value R.bases now.1 m) (given false)
+        none : Holds (λ fits. fits ≡ true → Agree value R.bases now.1 m) (Ok false)
         none = held λ h. absurd (true≢false (sym h))
 
     -- ---- refused by what leaves the range and by FRACTION alone
@@ -129,7 +129,7 @@ module _ (R : Rules Float) (now : Amount) where
       turn_only best m = only_bind _ _ (fitting_only (length now.1) m) λ fits q. go fits (take_out (fitting_agrees s m) q)
         where
           go : (fits : Bool) → (fits ≡ true → Agree value R.bases now.1 m) →
-              Only S (pick fits (apply (λ x. pick (eqb (length m) 1) (wins (x, m)) (stays (pick (ltb (length m) (length best.1)) (x, m) best))) (convert R now.1 m now.0)) (given (stays best)))
+              Only S (pick fits (apply (λ x. pick (eqb (length m) 1) (wins (x, m)) (stays (pick (ltb (length m) (length best.1)) (x, m) best))) (convert R now.1 m now.0)) (Ok (stays best)))
           go true a = only_map _ (agreeing_only R O S range fraction now.1 m now.0 (a refl))
           go false a = fine
 
@@ -144,7 +144,7 @@ module _ (R : Rules Float) (now : Amount) where
       chosen_only best (m ∷ ms) = only_bind _ _ (turn_only best m) λ w _. after_only w _ λ b. chosen_only b ms
 
   -- where the base rows ss are those of the rules
-  module _ (ss : List Slot) (ms : List (List Factor)) (same : (xs : List Exponent) → base R.bases now.1 ≡ given xs → Agree value R.bases now.1 (reduced ss xs)) where
+  module _ (ss : List Slot) (ms : List (List Factor)) (same : (xs : List Exponent) → base R.bases now.1 ≡ Ok xs → Agree value R.bases now.1 (reduced ss xs)) where
     pub keeps_by : Holds (λ a. Agree value R.bases now.1 a.1) (registered R ss ms now)
     keeps_by = registered_has (λ a. Agree value R.bases now.1 a.1) ss ms (agree_self value R.bases now.1) λ xs e.
         (on_list (Agree value R.bases now.1) (reduced ss xs) (same xs e), λ s. every ms λ m. holds_imp (fitting_agrees xs e s m) λ fits f k. on_list (Agree value R.bases now.1) m (f k))
@@ -161,7 +161,7 @@ module _ (R : Rules Float) (now : Amount) where
         fine
 
 -- ---- in an admitted table, whatever the candidates and the value
-module _ (t : Rows) (ks : List Facts) (k : table t ≡ given ks) (ms : List (List Factor)) (now : Amount) where
+module _ (t : Rows) (ks : List Facts) (k : table t ≡ Ok ks) (ms : List (List Factor)) (now : Amount) where
   -- THEOREM: the base exponents of what is left are kept
   pub registered_keeps : Holds (λ a. Agree value (rules_in t ks).bases now.1 a.1) (registered (rules_in t ks) (base_rows t) ms now)
   registered_keeps = keeps_by (rules_in t ks) now (base_rows t) ms (reduced_agrees t ks (admits t ks k) now.1)

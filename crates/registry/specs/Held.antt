@@ -1,7 +1,7 @@
 -- How code holds the table and the lists while the candidates have their turns.
 use Rattle.std.specs.Prelude.{◌≡◌, Bool, true, false, List, ℤ, Float, length, get_or}
 use Prim.Native.Nat.{ℕ, compare}
-use Rattle.exponents.specs.Outcome.{Outcome, given, refused, number}
+use Rattle.exponents.specs.Outcome.{Outcome, Ok, apply}
 use Rattle.exponents.specs.declared.Exponent.{Exponent}
 use Rattle.units.specs.declared.Factor.{Factor}
 use Rattle.units.specs.declared.Factors.{Factors}
@@ -13,7 +13,7 @@ use Rattle.tables.specs.Rows.{Facts, nobody, scale_at, admitted, admit, base_row
 use Rattle.tables.specs.Order.{order}
 use Rattle.tables.specs.Rules.{Rules, rules_in}
 use Rattle.tables.specs.Held.{View, Paged, pack_exps}
-use Rattle.values.specs.Quantities.{no_quantity}
+use Rattle.tables.specs.declared.pages.Columns.{Columns}
 use Rattle.simplification.specs.Steps.{Amount, quantity_of}
 use Rattle.registry.specs.Registry.{Turn, wins, stays, candidate_lists}
 use Rattle.registry.specs.declared.Choice.{Choice}
@@ -49,21 +49,25 @@ pub record Stored (t : Table) (len n : ℕ) (nums : List ℤ) (dens : List ℕ) 
   pub bases : n ≡ length (base_rows t.rows)
   pub paged : Paged t.known nums dens scales ranks based
 
+-- the same of the columns as code holds them
+abbrev pub StoredIn : Table → ℕ → ℕ → Columns → Type 0
+StoredIn t len n c = Stored t len n c.nums c.dens c.scales c.ranks c.based
+
 -- a list that passes its check
 pub record Checks (t : Table) (l : Factors) : Type 0 where
   pub factors : List Factor
-  pub is : checked (length t.known) l ≡ given factors
+  pub is : checked (length t.known) l ≡ Ok factors
 
 -- candidates that pass theirs
 pub record Offers (t : Table) (c : Candidates) : Type 0 where
   pub lists : List (List Factor)
-  pub are : candidate_lists (length t.known) c ≡ given lists
+  pub are : candidate_lists (length t.known) c ≡ Ok lists
 
 -- what the three steps left: its list passes again
 pub record Left (t : Table) (rest : Quantity) : Type 0 where
   pub amount : Amount
   pub is : rest ≡ quantity_of amount
-  pub passes : checked (length t.known) rest.unit ≡ given amount.1
+  pub passes : checked (length t.known) rest.unit ≡ Ok amount.1
 
 -- base exponents, one for each base row
 pub record BaseExps (t : Table) (xs : List Exponent) : Type 0 where
@@ -74,9 +78,8 @@ pub record BaseExps (t : Table) (xs : List Exponent) : Type 0 where
 -- ---- how a turn is handed over
 
 abbrev pub turn_of : Turn → Choice
-turn_of (wins a) = record { best = quantity_of a; won = true; refusal = 0 }
-turn_of (stays b) = record { best = quantity_of b; won = false; refusal = 0 }
+turn_of (wins a) = record { best = quantity_of a; won = true }
+turn_of (stays b) = record { best = quantity_of b; won = false }
 
-abbrev pub choice_of : Outcome Turn → Choice
-choice_of (given w) = turn_of w
-choice_of (refused r) = record { best = (no_quantity (number r)).quantity; won = false; refusal = number r }
+abbrev pub choice_of : Outcome Turn → Outcome Choice
+choice_of o = apply turn_of o

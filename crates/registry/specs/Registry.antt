@@ -3,7 +3,7 @@ use Rattle.std.specs.Prelude.{Bool, false, ◌&&◌, ◌||◌, List, [], ◌∷�
 use Rattle.std.specs.Float.{binary64}
 use Rattle.std.specs.Float.Ieee.{of_bits, is_nan, lt, sub, mul}
 use Rattle.exponents.specs.Words.{pick}
-use Rattle.exponents.specs.Outcome.{Outcome, given, SHAPE, unless, apply, bind}
+use Rattle.exponents.specs.Outcome.{Outcome, Ok, SHAPE, unless, apply, bind}
 use Rattle.exponents.specs.declared.Exponent.{Exponent}
 use Rattle.floats.specs.Power.{one}
 use Rattle.floats.specs.Values.{is_zero, abs_of}
@@ -23,7 +23,7 @@ use Rattle.simplification.specs.Steps.{Amount}
 
 -- each one's rank, which must be at least `least`, then its list
 unfoldable pub lists_from : ℕ → ℕ → List Candidate → Outcome (List (List Factor))
-lists_from rows least [] = given []
+lists_from rows least [] = Ok []
 lists_from rows least (c ∷ cs) =
     unless (ltb c.rank least) SHAPE
     (bind (checked rows c.unit) (λ fs. apply (λ ms. fs ∷ ms) (lists_from rows (suc c.rank) cs)))
@@ -65,7 +65,7 @@ pub data Turn : Type 0 where
   stays : Amount → Turn
 
 unfoldable pub after : Turn → (Amount → Outcome Amount) → Outcome Amount
-after (wins a) next = given a
+after (wins a) next = Ok a
 after (stays b) next = next b
 
 module _ (R : Rules Float) where
@@ -73,8 +73,8 @@ module _ (R : Rules Float) where
   unfoldable pub fitting : ℕ → List Exponent → Float → List Factor → Outcome Bool
   fitting n xs s m =
       pick (ltb (length m) n)
-      (bind (base R.bases m) (λ ys. pick (same_all ys xs) (apply (close s) (scale_by R m)) (given false)))
-      (given false)
+      (bind (base R.bases m) (λ ys. pick (same_all ys xs) (apply (close s) (scale_by R m)) (Ok false)))
+      (Ok false)
 
   -- the candidate m after the best so far; one that fits is converted even if it can't beat that
   unfoldable pub turn : List Exponent → Float → Amount → Amount → List Factor → Outcome Turn
@@ -82,11 +82,11 @@ module _ (R : Rules Float) where
       bind (fitting (length now.1) xs s m) (λ fits.
       pick fits
       (apply (λ x. pick (eqb (length m) 1) (wins (x, m)) (stays (pick (ltb (length m) (length best.1)) (x, m) best))) (convert R now.1 m now.0))
-      (given (stays best)))
+      (Ok (stays best)))
 
   -- the candidates in turn
   unfoldable pub chosen : List Exponent → Float → Amount → Amount → List (List Factor) → Outcome Amount
-  chosen xs s now best [] = given best
+  chosen xs s now best [] = Ok best
   chosen xs s now best (m ∷ ms) = bind (turn xs s now best m) (λ w. after w (λ b. chosen xs s now b ms))
 
   -- the single base unit before the candidates; ss are the base rows, xs the base exponents and s the scale of what is left
@@ -101,4 +101,4 @@ module _ (R : Rules Float) where
   registered ss ms now =
       pick (ltb 1 (length now.1))
       (bind (base R.bases now.1) (λ xs. bind (scale_by R now.1) (λ s. settled ss ms now xs s)))
-      (given now)
+      (Ok now)

@@ -2,6 +2,7 @@
 // seen elsewhere, in the form of the stream.
 ghost use Rattle.std.specs.Prelude.{◌≡◌, ◌+◌, ◌≤◌, length};
 
+use stream::Frame;
 use wire::numbers::read_u32;
 
 #[derive(Clone, Copy, Drop)]
@@ -17,15 +18,16 @@ pub struct Tally {
 }
 
 // Whether the answer to the request is the one in `want`: its refusal, its length and its bytes.
+#[tactic(auto, using(stream::proofs::Answering::reply_within))]
 fn agrees(code: u32, args: &[u8], want: &[u8], out: &mut [u8]) -> bool {
     if want.len() < 8 {
         return false;
     }
     let r = stream::answer(code, args, out);
-    if r.refusal != read_u32(want, 0) {
+    if replies::number_of(r) != read_u32(want, 0) {
         return false;
     }
-    let n = r.len;
+    let n = r.unwrap_or(0);
     check::same(&out[0..n], &want[8..])
 }
 
@@ -85,19 +87,20 @@ fn stopped(t: Tally, used: usize, bad: bool) -> Tally
 }
 
 // Compares the records at the start of s, until one is not whole.
+#[tactic(auto, using(stream::proofs::Frames::whole_within))]
 pub fn compare(s: &[u8], out: &mut [u8], seen: Tally) -> Tally
     ensures { result.used ≤ length s.now }
 {
     let mut t = stopped(seen, 0, false);
     let mut at: usize = 0;
+    // Kept: a record says how long it is, so a step is no one place.
     while 4 <= s.len() - at {
         let code = read_u32(s, at);
         let from = at + 4;
         let f = stream::framed(code, s, from);
-        if f.kind != stream::WHOLE {
-            return stopped(t, at, f.kind == stream::BAD);
-        }
-        let to = f.to;
+        let Frame::Whole(to) = f else {
+            return stopped(t, at, f == Frame::Bad);
+        };
         let end = answer_end(s, to);
         if s.len() < end {
             return stopped(t, at, false);

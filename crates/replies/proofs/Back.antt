@@ -7,13 +7,11 @@ use lib.Dec.{T, eqb}
 use lib.Ieee.{Float, binary64, fits}
 use lib.ListN.{length}
 use Rattle.exponents.specs.Words.{pick, All}
-use Rattle.exponents.specs.Outcome.{given}
 use Rattle.exponents.specs.Fractions.{nought}
 use Rattle.exponents.specs.declared.Exponent.{Exponent}
 use Rattle.units.specs.declared.Factor.{Factor}
 use Rattle.units.specs.Lists.{pack}
 use Rattle.reduction.specs.Multiple.{Maybe, times, none}
-use Rattle.reduction.specs.Reduction.{reduced_of}
 use Rattle.wire.specs.Bytes.{bytes_of}
 use Rattle.wire.specs.Records.{exponent_bytes}
 use Rattle.wire.proofs.Form.{Form, told, then}
@@ -54,6 +52,6 @@ multiple_back = multiple_form.back
 
 -- ---- a list reduced
 
-pub reduced_back : (fs : List Factor) (v : Float) (s : List ℕ) → All FactorFits fs → length fs ≤ 16 → T (fits binary64 v) → reduced_at (reduced_bytes (fs, v) ++ s) 0 ≡ reduced_of (given (fs, v))
+pub reduced_back : (fs : List Factor) (v : Float) (s : List ℕ) → All FactorFits fs → length fs ≤ 16 → T (fits binary64 v) → reduced_at (reduced_bytes (fs, v) ++ s) 0 ≡ record { unit = pack fs; scale = v }
 unfolding reduced_at reduced_bytes value_bytes unit_bytes
-reduced_back fs v s a h f = ap (λ x. record { unit = x.1; scale = x.0; refusal = 0 }) ((then value_form list_form).back (v, pack fs) s (f, pack-fits fs a h))
+reduced_back fs v s a h f = ap (λ x. record { unit = x.1; scale = x.0 }) ((then value_form list_form).back (v, pack fs) s (f, pack-fits fs a h))

@@ -5,17 +5,17 @@ use Prim.Native.Nat.{ℕ, ◌+◌, ◌≤◌}
 use native.Mathlib.Omega.{arith}
 use lib.ListN.{length, take, drop, length-append, take-append-drop}
 use lib.Seq.{sets, sets-eq, length-take-le, take-append-le, take-take, drop_at, drop-append-le}
-use Rattle.exponents.specs.Outcome.{Outcome, given, refused}
+use Rattle.exponents.specs.Outcome.{Outcome, Ok, Err}
 use Rattle.wire.specs.Bytes.{bytes_of}
 use Rattle.wire.proofs.Digits.{length-bytes_of}
 use Rattle.wire.proofs.Stored.{sets_number}
 use Rattle.replies.specs.Replies.{left}
-use Rattle.replies.specs.Held.{reply_of}
+use Rattle.replies.specs.Held.{reply_of, reply_len}
 
 -- what is left in the first k bytes of a room is left in the room
-pub left-part : (room : List ℕ) (k : ℕ) (q : Outcome (List ℕ)) → k ≤ length room → (reply_of q).len ≤ k → left (take k room) q ++ drop k room ≡ left room q
-left-part room k (refused r) h l = take-append-drop k room
-left-part room k (given bs) h l =
+pub left-part : (room : List ℕ) (k : ℕ) (q : Outcome (List ℕ)) → k ≤ length room → reply_len (reply_of q) ≤ k → left (take k room) q ++ drop k room ≡ left room q
+left-part room k (Err r) h l = take-append-drop k room
+left-part room k (Ok bs) h l =
     let m : length bs ≤ length (take k room) = omega (arith, length-take-le k room h) in
     rw (append_assoc, ← drop-append-le, take-append-drop)
 

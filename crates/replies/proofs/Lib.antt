@@ -1,5 +1,4 @@
 pub mod Back
 pub mod Parts
 pub mod Sent
-pub mod Told
 pub mod Headed

@@ -4,7 +4,7 @@ use Prim.Native.Nat.{ℕ, Ordering, ◌+◌}
 use Rattle.std.specs.Float.{binary64}
 use Rattle.std.specs.Float.Ieee.{of_bits, to_bits}
 use Rattle.exponents.specs.Words.{pick}
-use Rattle.exponents.specs.Outcome.{Outcome, given, refused, ROOM, unless, bind}
+use Rattle.exponents.specs.Outcome.{Outcome, Ok, Err, ROOM, unless, bind}
 use Rattle.exponents.specs.Fractions.{nought}
 use Rattle.units.specs.declared.Factor.{Factor}
 use Rattle.units.specs.Lists.{pack}
@@ -17,12 +17,12 @@ use Rattle.wire.specs.Records.{exponent_at, list_at, exponent_bytes, list_bytes,
 
 -- what a call sends into so many lent bytes
 unfoldable pub sent : List ℕ → Outcome (List ℕ) → Outcome (List ℕ)
-sent room o = bind o (λ bs. unless (ltb (length room) (length bs)) ROOM (given bs))
+sent room o = bind o (λ bs. unless (ltb (length room) (length bs)) ROOM (Ok bs))
 
 -- what the room holds at the end: the answer before its own further bytes; after a refusal its own bytes
 abbrev pub left : List ℕ → Outcome (List ℕ) → List ℕ
-left room (given bs) = bs ++ drop (length bs) room
-left room (refused r) = room
+left room (Ok bs) = bs ++ drop (length bs) room
+left room (Err r) = room
 
 -- ---- the answers' bytes
 
@@ -59,4 +59,4 @@ unfoldable pub multiple_at : List ℕ → ℕ → Maybe
 multiple_at s i = pick (eqb (le 4 s i) 0) none (times (exponent_at s (i + 4)))
 
 unfoldable pub reduced_at : List ℕ → ℕ → Reduced
-reduced_at s i = record { unit = list_at s (i + 8); scale = of_bits binary64 (le 8 s i); refusal = 0 }
+reduced_at s i = record { unit = list_at s (i + 8); scale = of_bits binary64 (le 8 s i) }

@@ -1,6 +1,6 @@
 -- How what comes before a factor is counted: one comparison by key, rank and row, and the counts with the first j factors looked at.
 use mathlib.Core.Path.{◌≡◌, refl, sym, ◌∙◌, ap, ap₂}
-use mathlib.Core.Bool.{◌||◌, ◌&&◌, true, false}
+use mathlib.Core.Bool.{Bool, true, false, cond, ◌||◌, ◌&&◌}
 use mathlib.Core.List.{List}
 use Prim.Native.Nat.compare
 use Prim.Native.Nat.{ℕ, zero, suc, ◌+◌, ◌*◌, ◌<◌, ◌≤◌, compare, Ordering}
@@ -13,15 +13,22 @@ use Rattle.units.specs.declared.Factor.{Factor}
 use Rattle.units.specs.Lists.{no_factor}
 use Rattle.keys.specs.Key.{entries}
 use Rattle.keys.specs.Orders.{then, lists, pairs}
-use Rattle.keys.specs.Held.{sense_of, key_at}
+use Rattle.keys.specs.Held.{key_at}
 use Rattle.tables.specs.Held.{Ranked, is_less, tally, before}
 use Rattle.tables.specs.Rows.{Facts, nobody}
 use Rattle.tables.specs.Order.{key_order, row_order}
-use Rattle.keys.specs.declared.order.Sense.TheVariants.{Less, Equal, Greater}
-use Rattle.resolution.specs.Held.{Named, count_by, count_of}
+use Rattle.std.specs.Prelude.{Some}
+use Rattle.std.specs.declared.cmp.Ordering.TheVariants.{Less, Equal, Greater}
+use Rattle.std.specs.Ordering.{is_lt, is_some_and, nat_cmp, partial_lt, partial_ordering_then}
+use Rattle.resolution.specs.Held.{Named, Space, count_by, count_of}
 use Rattle.resolution.specs.declared.Count.{Count}
 use Rattle.resolution.proofs.KeyPads.{entries-packed}
 use Rattle.resolution.proofs.Before.{tally-most, before_on, before_end}
+
+-- ---- rows that are named
+
+pub low : (n : ℕ) (rows : List ℕ) (keys : List ℤ) (j : ℕ) → Space n rows keys → j < n → get_or rows j 0 < 128
+low n rows keys j h k = h.3 j k
 
 -- ---- one comparison
 
@@ -33,7 +40,7 @@ less_test (suc a) zero = le-ltb (suc a) 0 (omega arith) ∙ sym (ap is_less (com
 less_test (suc a) (suc b) = leb-suc-suc (suc a) b ∙ less_test a b ∙ sym (ap is_less (compare.suc-suc a b))
 
 -- rank, then row
-pub lower_is : (a r b s : ℕ) → (ltb a b || (eqb a b && ltb r s)) ≡ is_less (then (compare a b) (compare r s))
+lower_is : (a r b s : ℕ) → (ltb a b || (eqb a b && ltb r s)) ≡ is_less (then (compare a b) (compare r s))
 unfolding is_less
 lower_is a r b s = ap₂ (λ t u. t || (eqb a b && u)) (less_test a b) (less_test r s) ∙ go (compare a b) (compare r s)
   where
@@ -42,30 +49,16 @@ lower_is a r b s = ap₂ (λ t u. t || (eqb a b && u)) (less_test a b) (less_tes
     go Ordering.eq p = refl
     go Ordering.gt p = refl
 
-module _ (c : Count) where
-  pub count_less : (o p : Ordering) → sense_of o ≡ Less → record { place = c.place + 1; class = c.class + 1 } ≡ count_by c o p
-  unfolding tally is_less
-  count_less Ordering.lt p e = ap₂ (λ (m n : ℕ). record { place = m; class = n }) (omega arith) (omega arith)
-  count_less Ordering.eq p e = absurd (let z : ◌≡◌ {A = ℕ} 0 1 = cc in omega arith)
-  count_less Ordering.gt p e = absurd (let z : ◌≡◌ {A = ℕ} 0 1 = cc in omega arith)
-
-  pub count-equal : (o p : Ordering) → sense_of o ≡ Equal → is_less p ≡ true → record { place = c.place + 1; class = c.class } ≡ count_by c o p
-  unfolding tally is_less
-  count-equal Ordering.lt p e h = absurd (let z : ◌≡◌ {A = ℕ} 0 1 = cc in omega arith)
-  count-equal Ordering.eq p e h = rw h (ap (λ (m : ℕ). record { place = m; class = c.class }) (omega arith))
-  count-equal Ordering.gt p e h = absurd (let z : ◌≡◌ {A = ℕ} 0 1 = cc in omega arith)
-
-  pub count_same : (o p : Ordering) → sense_of o ≡ Equal → is_less p ≡ false → c ≡ count_by c o p
-  unfolding tally is_less
-  count_same Ordering.lt p e h = absurd (let z : ◌≡◌ {A = ℕ} 0 1 = cc in omega arith)
-  count_same Ordering.eq p e h = rw h
-  count_same Ordering.gt p e h = absurd (let z : ◌≡◌ {A = ℕ} 0 1 = cc in omega arith)
-
-  pub count_greater : (o p : Ordering) → sense_of o ≡ Greater → c ≡ count_by c o p
-  unfolding tally is_less
-  count_greater Ordering.lt p e = absurd (let z : ◌≡◌ {A = ℕ} 0 1 = cc in omega arith)
-  count_greater Ordering.eq p e = absurd (let z : ◌≡◌ {A = ℕ} 0 1 = cc in omega arith)
-  count_greater Ordering.gt p e = refl
+-- as std compares two pairs
+pub pairs_less : (a r b s : ℕ) → partial_lt (λ (x y : ℕ × ℕ). partial_ordering_then (Some (nat_cmp x.0 y.0)) (Some (nat_cmp x.1 y.1))) (a, r) (b, s) ≡ is_less (then (compare a b) (compare r s))
+pairs_less a r b s = go (ltb a b) (eqb a b) (ltb r s) (eqb r s) ∙ lower_is a r b s
+  where
+    go : (t e u v : Bool) → is_some_and is_lt (partial_ordering_then (Some (cond t Less (cond e Equal Greater))) (Some (cond u Less (cond v Equal Greater)))) ≡ (t || (e && u))
+    go true e u v = refl
+    go false true true v = refl
+    go false true false true = refl
+    go false true false false = refl
+    go false false u v = refl
 
 -- a count goes up by one at most
 module _ (c u : Count) (o p : Ordering) (e : u ≡ count_by c o p) where
@@ -82,9 +75,6 @@ pub record Counting (ks : List Facts) (l : List Factor) (r : ℕ) (c : Count) (j
   pub class : before (key_order ks) l r ≡ c.class + before (key_order ks) (drop j l) r
 
 module _ (ks : List Facts) (l : List Factor) (r : ℕ) where
-  pub counting_none : Counting ks l r (record { place = 0; class = 0 }) 0
-  counting_none = record { place = omega arith; class = omega arith }
-
   pub counting_end : (c : Count) (j : ℕ) → Counting ks l r c j → length l ≤ j → c ≡ count_of ks l r
   counting_end c j p h =
       ap₂ (λ (m n : ℕ). record { place = m; class = n })

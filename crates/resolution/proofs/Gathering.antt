@@ -7,27 +7,27 @@ use Prim.Native.Nat.{ℕ, ◌+◌, ◌-◌, ◌*◌, ◌<◌, ◌≤◌}
 use native.Mathlib.Omega.{arith}
 use native.Mathlib.Nat.{eq-or-lt_of_le}
 use lib.IntN.{ℤ}
-use lib.ListN.{length, take, drop, get_or, set, length-append, length-drop, take-append-drop, drop_of_length-le, get_or-append}
+use lib.ListN.{length, take, drop, get_or, set, length-append, length-drop, take-append-drop, get_or-append}
 use lib.Seq.{sets, sets-eq, get_or-take, get_or-append-add, get_or-set_same, get_or-set_other, length-take-le, take-append-le, drop-append-le, take_at, take_all, drop_at}
 use borrow.Author.Tests.{ltb-true, not-false}
-use Rattle.exponents.specs.Outcome.{Outcome, refusal_of}
+use Rattle.exponents.specs.Outcome.{Refusal, Outcome, Ok, Err, tested}
 use Rattle.exponents.specs.declared.Exponent.{Exponent}
-use Rattle.exponents.proofs.Holds.{Holds, held, take_out, holds_unless}
+use Rattle.exponents.proofs.Holds.{Holds, held, take_out, holds_unless, one_answer}
 use Rattle.exponents.proofs.InRange.{or_left, or_right}
-use Rattle.exponents.proofs.Numbers.{refuses}
+use Rattle.exponents.proofs.Numbers.{clash}
 use Rattle.units.specs.declared.Factor.{Factor}
 use Rattle.units.specs.declared.Factors.{Factors}
 use Rattle.units.specs.Lists.{no_factor, list_of, some, unknown, checked, both}
 use Rattle.units.proofs.Laws.{listed, none_at}
 use Rattle.units.proofs.Checked.{short, passes, first_passed, second_passed, both_pass}
+use Rattle.tables.proofs.Terms.{get_any}
 use Rattle.tables.specs.declared.Items.{Items}
-use Rattle.keys.specs.declared.making.Key.{Key}
 use Rattle.keys.specs.Key.{key}
-use Rattle.keys.specs.Held.{keyed_of, key_at}
+use Rattle.keys.specs.Held.{key_at}
 use Rattle.tables.specs.Held.{pack_exps, view_of, pack_items}
 use Rattle.tables.specs.Rows.{Facts, nobody}
 use Rattle.resolution.specs.declared.Resolved.{Resolved}
-use Rattle.resolution.specs.Held.{Keyed, Named, Within, pack_key, unresolved, resolved_of}
+use Rattle.resolution.specs.Held.{Keyed, Named, Within, pack_key, resolved_of}
 use Rattle.resolution.proofs.KeyPads.{key-packed}
 
 -- ---- two lists that passed, with so many rows
@@ -41,14 +41,34 @@ all_known : (rows : ℕ) (l : Factors) → Holds (λ fs. some (unknown rows) fs 
 unfolding checked
 all_known rows l = holds_unless _ _ λ s. holds_unless _ _ λ u. held u
 
-pub record Lists (rows : ℕ) (a b : Factors) : Type 0 where
-  pub passed : refusal_of (both rows a b) ≡ 0
-  pub first_full : length a.at ≡ 16
-  pub second_full : length b.at ≡ 16
-
 -- the lists joined
 abbrev pub join : Factors → Factors → List Factor
 join a b = list_of a ++ list_of b
+
+module _ (a b : Factors) (first_full : length a.at ≡ 16) (first_short : a.len ≤ 16) where
+  long_first : length (list_of a) ≡ a.len
+  long_first = listed a first_full first_short
+
+  -- the factor at place i, as the code reads it
+  pub from_first : (i : ℕ) (d : Factor) → i < a.len → (get_or a.at i d).row ≡ (get_or (join a b) i no_factor).row
+  from_first i d h =
+      ap (λ (f : Factor). f.row) (sym (get_or-take a.len a.at i d h) ∙ get_any (list_of a) i d no_factor (omega (arith, long_first)) ∙ sym (get_or-append (list_of a) (list_of b) no_factor i (omega (arith, long_first))))
+
+  pub from_second : (i : ℕ) (d : Factor) → length b.at ≡ 16 → b.len ≤ 16 → a.len ≤ i → i < a.len + b.len → (get_or b.at (i - a.len) d).row ≡ (get_or (join a b) i no_factor).row
+  from_second i d full short h k =
+      let e : length (list_of a) + (i - a.len) ≡ i = omega (arith, long_first) in
+      let there : i - a.len < length (list_of b) = omega (arith, listed b full short) in
+      ap (λ (f : Factor). f.row)
+      (sym (get_or-take b.len b.at (i - a.len) d (omega arith))
+      ∙ get_any (list_of b) (i - a.len) d no_factor there
+      ∙ sym (get_or-append-add (list_of a) (list_of b) (i - a.len) no_factor)
+      ∙ ap (λ n. get_or (join a b) n no_factor) e)
+
+-- two lists that passed
+pub record Lists (rows : ℕ) (a b : Factors) : Type 0 where
+  pub passed : Ok tt ≡ tested (both rows a b)
+  pub first_full : length a.at ≡ 16
+  pub second_full : length b.at ≡ 16
 
 module _ {rows : ℕ} {a b : Factors} (g : Lists rows a b) where
   pub first_short : a.len ≤ 16
@@ -57,59 +77,38 @@ module _ {rows : ℕ} {a b : Factors} (g : Lists rows a b) where
   pub second_short : b.len ≤ 16
   second_short = short rows b (second_passed rows a b g.passed)
 
-  long_first : length (list_of a) ≡ a.len
-  long_first = listed a g.first_full first_short
-
-  long_second : length (list_of b) ≡ b.len
-  long_second = listed b g.second_full second_short
-
   pub long_join : length (join a b) ≡ a.len + b.len
-  long_join = length-append (list_of a) (list_of b) ∙ ap₂ ◌+◌ long_first long_second
-
-  -- the factor at place i, as the code reads it
-  pub from_first : (i : ℕ) (d : Factor) → i < a.len → get_or a.at i d ≡ get_or (join a b) i d
-  from_first i d h = sym (get_or-take a.len a.at i d h) ∙ sym (get_or-append (list_of a) (list_of b) d i (omega (arith, long_first)))
-
-  pub from_second : (i : ℕ) (d : Factor) → a.len ≤ i → i < a.len + b.len → get_or b.at (i - a.len) d ≡ get_or (join a b) i d
-  from_second i d h k =
-      let e : length (list_of a) + (i - a.len) ≡ i = omega (arith, long_first) in
-      sym (get_or-take b.len b.at (i - a.len) d (omega arith))
-      ∙ sym (get_or-append-add (list_of a) (list_of b) (i - a.len) d)
-      ∙ ap (λ n. get_or (join a b) n d) e
+  long_join = length-append (list_of a) (list_of b) ∙ ap₂ ◌+◌ (listed a g.first_full first_short) (listed b g.second_full second_short)
 
   -- it names a row of the table
-  pub names_row : (i : ℕ) (d : Factor) → i < a.len + b.len → (get_or (join a b) i d).row < rows
-  names_row i d h =
+  pub names_row : (i : ℕ) → i < a.len + b.len → (get_or (join a b) i no_factor).row < rows
+  names_row i h =
       let none = none_append (unknown rows) (list_of a) (list_of b)
       (take_out (all_known rows a) (passes rows a (first_passed rows a b g.passed)))
       (take_out (all_known rows b) (passes rows b (second_passed rows a b g.passed))) in
-      ltb-true _ _ (not-false _ (none_at (unknown rows) (join a b) i d (omega (arith, long_join)) none))
+      ltb-true _ _ (not-false _ (none_at (unknown rows) (join a b) i no_factor (omega (arith, long_join)) none))
 
   -- each list is a part of the join
   pub first_part : list_of a ≡ take a.len (drop 0 (join a b))
-  first_part = sym (take_at (list_of a) (list_of b) a.len long_first)
+  first_part = sym (take_at (list_of a) (list_of b) a.len (listed a g.first_full first_short))
 
   pub second-part : list_of b ≡ take b.len (drop a.len (join a b))
-  second-part = sym (ap (take b.len) (drop_at (list_of a) (list_of b) a.len long_first) ∙ take_all b.len (list_of b) (omega (arith, long_second)))
+  second-part = sym (ap (take b.len) (drop_at (list_of a) (list_of b) a.len (listed a g.first_full first_short)) ∙ take_all b.len (list_of b) (omega (arith, listed b g.second_full second_short)))
 
 -- ---- an admitted table
 
 -- its key is worked out
 module _ {ks : List Facts} (h : Keyed ks) (r : ℕ) (there : r < length ks) (e : List Exponent) (is : e ≡ pack_exps (get_or ks r nobody).exps) where
-  key_at_lem : (q : Key) → q ≡ keyed_of (key e) → q ≡ record { nums = pack_key (get_or ks r nobody).key; refusal = 0 }
-  key_at_lem q w = w ∙ ap (λ e. keyed_of (key e)) is ∙ ap keyed_of (key-packed _ _ (h.keys r there))
+  key_known : key e ≡ Ok (pack_key (get_or ks r nobody).key)
+  key_known = ap key is ∙ key-packed _ _ (h.keys r there)
 
-  pub key_there : (q : Key) → q ≡ keyed_of (key e) → q.refusal ≡ 0
-  key_there q w = ap (λ (q : Key). q.refusal) (key_at_lem q w)
+  pub key_there : (why : Refusal) → Err why ≡ key e → ⊥
+  key_there why w = clash (sym key_known ∙ sym w)
 
-  pub key_is : (q : Key) → q ≡ keyed_of (key e) → q.nums ≡ pack_key (get_or ks r nobody).key
-  key_is q w = ap (λ (q : Key). q.nums) (key_at_lem q w)
+  pub key_is : (q : List ℤ) → Ok q ≡ key e → q ≡ pack_key (get_or ks r nobody).key
+  key_is q w = one_answer (w ∙ key_known)
 
 -- ---- what is gathered, one factor more
-
--- a key put number by number: at its end
-pub put_end : (keys k : List ℤ) (at i : ℕ) → length k ≤ i → sets keys (at + i) (drop i k) ≡ keys
-put_end keys k at i h = ap (sets keys (at + i)) (drop_of_length-le k h)
 
 -- the key that is put at place i, and the keys before it
 key_here : (keys k : List ℤ) (i : ℕ) → length k ≡ 16 → i * 16 + 16 ≤ length keys → key_at (i * 16) (sets keys (i * 16) k) ≡ k
@@ -158,10 +157,17 @@ named_none ks l rows keys = record { few = omega arith; row = λ j h. absurd (om
 
 -- ---- the answer
 
-pub not_resolved : (ks : List Facts) (o : Outcome (List Factor × List Factor)) (n : ℕ) → n ≡ refusal_of o → (n ≡ 0 → ⊥) → unresolved n ≡ resolved_of ks o
-not_resolved ks o n e h = let r = refuses o n e h in ap unresolved (sym r.numbered) ∙ sym (ap (resolved_of ks) r.is)
-
 -- x and y are the parts of the join
 pub resolved_by : {rows : ℕ} {a b : Factors} → Lists rows a b → (ks : List Facts) (x y : Items) → x ≡ pack_items (view_of ks (join a b)) (list_of a) → y ≡ pack_items (view_of ks (join a b)) (list_of b) →
-    ◌≡◌ {A = Resolved} (record { a = x; b = y; refusal = 0 }) (resolved_of ks (both rows a b))
-resolved_by {rows} {a} {b} g ks x y p q = ap₂ (λ (x y : Items). record { a = x; b = y; refusal = 0 }) p q ∙ sym (ap (resolved_of ks) (both_pass rows a b g.passed))
+    ◌≡◌ {A = Outcome Resolved} (Ok record { a = x; b = y }) (resolved_of ks (both rows a b))
+resolved_by {rows} {a} {b} g ks x y p q = ap₂ (λ (x y : Items). Ok record { a = x; b = y }) p q ∙ sym (ap (resolved_of ks) (both_pass rows a b g.passed))
+
+-- ---- how the loop goes: the rows and the keys of the factors before i are gathered
+pub record Gathers (rows : ℕ) (a b : Factors) (i : ℕ) (named : List ℕ) (keys : List ℤ) (Read : List Facts → Type 0) : Type 0 where
+  pub lists : Lists rows a b
+  pub first : a.len ≤ 16
+  pub second : b.len ≤ 16
+  pub long_keys : length keys ≡ 512
+  pub long_rows : length named ≡ 32
+  pub within : Within i named
+  pub gathered : (ks : List Facts) → Read ks → Named ks (join a b) i named keys

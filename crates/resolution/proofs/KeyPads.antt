@@ -8,8 +8,7 @@ use native.Mathlib.Omega.{arith}
 use lib.IntN.{ℤ, pos, negsuc, nat_abs}
 use lib.ListN.{length, replicate}
 use lib.Signed.{quot_z}
-use Rattle.exponents.specs.Outcome.{Outcome, given, bind, apply}
-use Rattle.exponents.specs.Outcome as outcome
+use Rattle.exponents.specs.Outcome.{Outcome, Ok, Err, bind, apply}
 use Rattle.exponents.specs.Gcd.{gcd}
 use Rattle.exponents.specs.Fractions.{nought}
 use Rattle.exponents.specs.declared.Exponent.{Exponent}
@@ -33,7 +32,7 @@ unfolding bind
 bind_same f g moot h = refl
 bind_same f g (held {a = a} p) h = h a p
 
-multiple_noughts : (n m : ℕ) → Denominator m → multiple m (noughts n) ≡ given m
+multiple_noughts : (n m : ℕ) → Denominator m → multiple m (noughts n) ≡ Ok m
 unfolding multiple
 multiple_noughts zero m r = refl
 multiple_noughts (suc n) m r = bind_given _ (lcm-one m r.0 r.1) ∙ multiple_noughts n m r
@@ -99,8 +98,8 @@ unfolding key
 key_pad n d = ap (apply (λ m. reduce (wholes m (d ++ noughts n)))) (multiple_pad n 1 d (omega arith, omega arith)) ∙ go (multiple 1 d)
   where
     go : (o : Outcome ℕ) → apply (λ m. reduce (wholes m (d ++ noughts n))) o ≡ apply (λ k. k ++ zeros n) (apply (λ m. reduce (wholes m d)) o)
-    go (given m) = ap (λ w. given (reduce w)) (wholes_pad n m d) ∙ ap given (reduce_pad n (wholes m d))
-    go (outcome.refused r) = refl
+    go (Ok m) = ap (λ w. Ok (reduce w)) (wholes_pad n m d) ∙ ap Ok (reduce_pad n (wholes m d))
+    go (Err r) = refl
 
 long_wholes : (m : ℕ) (d : List Exponent) → length (wholes m d) ≡ length d
 unfolding wholes
@@ -113,14 +112,14 @@ long_shrink s g [] = refl
 long_shrink s g (z ∷ w) = ap suc (long_shrink s g w)
 
 -- a key has a number for each base row
-pub long_key : (d : List Exponent) (k : List ℤ) → key d ≡ given k → length k ≡ length d
+pub long_key : (d : List Exponent) (k : List ℤ) → key d ≡ Ok k → length k ≡ length d
 unfolding key reduce
 long_key d k e = take_out {P = λ k. length k ≡ length d} (holds_all _ (multiple 1 d) λ m. long_shrink (below (wholes m d)) (divisor 0 (wholes m d)) (wholes m d) ∙ long_wholes m d) e
 
 -- on sixteen places
-pub key-packed : (d : List Exponent) (k : List ℤ) → key d ≡ given k → key (pack_exps d) ≡ given (pack_key k)
+pub key-packed : (d : List Exponent) (k : List ℤ) → key d ≡ Ok k → key (pack_exps d) ≡ Ok (pack_key k)
 unfolding pack_exps pack_key
-key-packed d k e = key_pad (16 - length d) d ∙ ap (apply (λ k. k ++ zeros (16 - length d))) e ∙ ap (λ n. given (k ++ zeros (16 - n))) (sym (long_key d k e))
+key-packed d k e = key_pad (16 - length d) d ∙ ap (apply (λ k. k ++ zeros (16 - length d))) e ∙ ap (λ n. Ok (k ++ zeros (16 - n))) (sym (long_key d k e))
 
 -- ---- entries
 

@@ -7,7 +7,7 @@ use native.Mathlib.Omega.{arith}
 use lib.Dec.{ltb}
 use lib.ListN.{length, length-take}
 use borrow.Author.Tests.{ltb-false}
-use Rattle.exponents.specs.Outcome.{given, TABLE}
+use Rattle.exponents.specs.Outcome.{Ok, TABLE}
 use Rattle.units.specs.declared.Row.{Row}
 use Rattle.units.specs.declared.Rows.{Rows}
 use Rattle.tables.specs.declared.Slot.{Slot}
@@ -32,10 +32,10 @@ few_rows r ks e = let n = ltb-false 128 r.len (go (ltb 128 r.len) _ e) in simp l
     go false a e = refl
 
 -- a table that is known is admitted
-pub admits : (t : Rows) (ks : List Facts) → table t ≡ given ks → admit t ≡ admitted ks
+pub admits : (t : Rows) (ks : List Facts) → table t ≡ Ok ks → admit t ≡ admitted ks
 admits t ks = go (admit t)
   where
-    go : (a : Admission) → known a ≡ given ks → a ≡ admitted ks
+    go : (a : Admission) → known a ≡ Ok ks → a ≡ admitted ks
     go (admitted js) e = let p : js ≡ ks = cc in ap admitted p
     go (stopped r js) e = absurd (let z : ◌≡◌ {A = ℕ} 0 1 = cc in omega arith)
 

@@ -9,7 +9,7 @@ use lib.Dec.{ltb, eqb}
 use lib.ListN.{length, get_or, replicate, get_or-eq_default}
 use borrow.Author.Tests.{ltb-true, ltb-false, eq-eqb, ne_eqb}
 use Rattle.exponents.specs.Words.{All}
-use Rattle.exponents.specs.Outcome.{given}
+use Rattle.exponents.specs.Outcome.{Ok}
 use Rattle.exponents.specs.declared.Exponent.{Exponent}
 use Rattle.exponents.specs.Fractions.{nought}
 use Rattle.units.specs.declared.Factor.{Factor}
@@ -101,7 +101,7 @@ rules_told t ks l n e =
 
 -- ---- an admitted table's rows have at most sixteen base exponents
 
-module _ (t : Rows) (ks : List Facts) (k : table t ≡ given ks) where
+module _ (t : Rows) (ks : List Facts) (k : table t ≡ Ok ks) where
   few_exps : (r : ℕ) → length (get_or ks r nobody).exps ≤ 16
   few_exps r = go (ltb r (length ks)) refl
     where

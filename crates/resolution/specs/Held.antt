@@ -1,7 +1,7 @@
 -- How code resolves two lists against an admitted table: what it hands over, and how it counts what comes before a factor.
 use Rattle.std.specs.Prelude.{◌≡◌, Bool, List, ◌++◌, ℤ, pos, Float, length, take, drop, get_or, replicate}
 use Prim.Native.Nat.{ℕ, ◌-◌, ◌*◌, ◌≤◌, ◌<◌, Ordering}
-use Rattle.exponents.specs.Outcome.{Outcome, given, refused, number}
+use Rattle.exponents.specs.Outcome.{Outcome, Ok, apply}
 use Rattle.units.specs.declared.Factor.{Factor}
 use Rattle.units.specs.declared.Factors.{Factors}
 use Rattle.units.specs.Lists.{no_factor, list_of}
@@ -11,6 +11,7 @@ use Rattle.tables.specs.Held.{Paged, Sized, Ranked, Basic, is_less, tally, befor
 use Rattle.keys.specs.Key.{key}
 use Rattle.tables.specs.Rows.{Facts, nobody}
 use Rattle.tables.specs.Order.{key_order, row_order}
+use Rattle.tables.specs.declared.pages.Columns.{Columns}
 use Rattle.tables.specs.declared.Item.{Item}
 use Rattle.tables.specs.declared.Items.{Items}
 use Rattle.resolution.specs.declared.Count.{Count}
@@ -19,7 +20,7 @@ use Rattle.resolution.specs.declared.Resolved.{Resolved}
 -- what admission leaves of a table: few rows, and each has its key
 pub record Keyed (ks : List Facts) : Type 0 where
   pub few : length ks ≤ 128
-  pub keys : (i : ℕ) → i < length ks → key (get_or ks i nobody).exps ≡ given (get_or ks i nobody).key
+  pub keys : (i : ℕ) → i < length ks → key (get_or ks i nobody).exps ≡ Ok (get_or ks i nobody).key
 
 -- what resolving goes by: the rows that five arrays tell, as many as `len`, each with its key, and an empty list to fill
 pub record Reads (ks : List Facts) (len : ℕ) (none : Items) (nums : List ℤ) (dens : List ℕ) (scales : List Float) (ranks : List ℕ) (based : List Bool) : Type 0 where
@@ -28,15 +29,15 @@ pub record Reads (ks : List Facts) (len : ℕ) (none : Items) (nums : List ℤ) 
   pub paged : Paged ks nums dens scales ranks based
   pub keyed : Keyed ks
 
+-- the same of the columns as code holds them
+abbrev pub ReadsIn : List Facts → ℕ → Items → Columns → Type 0
+ReadsIn ks len none c = Reads ks len none c.nums c.dens c.scales c.ranks c.based
+
 -- ---- the answer
 
-abbrev pub unresolved : ℕ → Resolved
-unresolved n = record { a = no_items_lem; b = no_items_lem; refusal = n }
-
 -- both lists are seen by way of their join
-abbrev pub resolved_of : List Facts → Outcome (List Factor × List Factor) → Resolved
-resolved_of ks (given p) = record { a = pack_items (view_of ks (p.0 ++ p.1)) p.0; b = pack_items (view_of ks (p.0 ++ p.1)) p.1; refusal = 0 }
-resolved_of ks (refused r) = unresolved (number r)
+abbrev pub resolved_of : List Facts → Outcome (List Factor × List Factor) → Outcome Resolved
+resolved_of ks = apply (λ p. record { a = pack_items (view_of ks (p.0 ++ p.1)) p.0; b = pack_items (view_of ks (p.0 ++ p.1)) p.1 })
 
 -- ---- what code gathers on the way
 
@@ -63,6 +64,10 @@ pub record Fills (ks : List Facts) (fs : List Factor) (n : ℕ) (l : Factors) (s
   pub part : list_of l ≡ take l.len (drop start fs)
   pub sized : Sized ks scales
   pub basic : Basic ks based
+
+-- the same of the columns as code holds them
+abbrev pub FillsIn : List Facts → List Factor → ℕ → Factors → ℕ → Items → List ℕ → List ℤ → Columns → Type 0
+FillsIn ks fs n l start none rows keys c = Fills ks fs n l start none rows keys c.scales c.ranks c.based
 
 -- the first n rows are rows that a table can have
 abbrev pub Within : ℕ → List ℕ → Type 0

@@ -1,31 +1,31 @@
 // Two lists checked against an admitted table, and each factor handed out with what is known of its row (01, "The refusals", "Canonical form").
-// Public: `resolve`. Above it nothing sees the table but for its rows' base exponents, in two lent arrays.
+// Public: `resolve`. Above it nothing sees the table but for its rows' base exponents, in two lent columns.
 #![tactic(auto)]
 
-ghost use Rattle.std.specs.Prelude.{◌≡◌, false, List, length, get_or};
-ghost use Prim.Native.Nat.{◌+◌, ◌≤◌, ◌<◌, compare, Ordering};
+ghost use Rattle.std.specs.Prelude.{◌≡◌, false, List, ◌++◌, length, get_or};
+ghost use Prim.Native.Nat.{◌+◌, ◌≤◌, ◌<◌, compare, Ordering as Order};
 ghost use Rattle.std.proofs.lemmas.List.Edits.{sets};
 ghost use Rattle.floats.specs.Power.{one};
 ghost use Rattle.units.specs.declared.Factor.{Factor as Factorᵛ};
-ghost use Rattle.units.specs.Lists.{both, list_of};
+ghost use Rattle.units.specs.Lists.{both, list_of, no_factor};
 ghost use Rattle.keys.specs.Orders.{then};
 ghost use Rattle.keys.specs.Held.{sense_of};
-ghost use Rattle.tables.specs.Held.{Room, is_less, view_of, pack_items, no_items_lem};
+ghost use Rattle.tables.specs.Held.{is_less, view_of, pack_items, no_items_lem};
 ghost use Rattle.tables.specs.Rows.{Facts};
-ghost use Rattle.resolution.specs.Held.{Counts, Fills, Space, Reads, count_by, count_of, item_by, unresolved, resolved_of};
+ghost use Rattle.resolution.specs.Held.{Counts, FillsIn, Space, ReadsIn, count_by, count_of, item_by, resolved_of};
 
-use exponents::refusals::TABLE;
+use exponents::refusals::Refusal;
 use keys::order;
-use keys::order::Sense;
+use std::cmp::Ordering;
+use tables::pages::{Bases, Columns};
 use tables::{Item, Items, pages};
 use units::{Factor, Factors};
 
-// Two resolved lists, or empty ones beside the number of the refusal.
+// Two resolved lists.
 #[derive(Clone, Copy, Drop)]
 pub struct Resolved {
     pub a: Items,
     pub b: Items,
-    pub refusal: u32,
 }
 
 // How many factors come before one: by key, rank and row; by key alone.
@@ -38,36 +38,34 @@ struct Count {
 // ---- how many come before a factor
 
 // Whether a row of rank a and number r comes before one of rank b and number s.
+#[tactic(auto, using(crate::proofs::Counting::pairs_less))]
 fn lower(a: u16, r: u32, b: u16, s: u32) -> bool
     ensures { result ≡ is_less (then (compare a b) (compare r s)) }
 {
-    (a < b) | ((a == b) & (r < s))
+    (a, r) < (b, s)
 }
 
 // One factor more: its key's order with the other's, and whether its rank and row come before.
-fn counted(c: Count, o: Sense, low: bool) -> Count
+#[tactic(auto, unfolding(tables::specs::Held::tally, tables::specs::Held::is_less))]
+fn counted(c: Count, o: Ordering, low: bool) -> Count
     requires { (c.place < 32) × (c.class < 32) }
-    ensures { (k rest : Ordering) → o ≡ sense_of k → low ≡ is_less rest → result ≡ count_by c k rest }
+    ensures { (k rest : Order) → o ≡ sense_of k → low ≡ is_less rest → result ≡ count_by c k rest }
 {
     match o {
-        Sense::Less => Count {
+        Ordering::Less => Count {
             place: c.place + 1,
             class: c.class + 1,
         },
-        Sense::Equal => {
-            if low {
-                return Count {
-                    place: c.place + 1,
-                    class: c.class,
-                };
-            }
-            c
-        }
-        Sense::Greater => c,
+        Ordering::Equal if low => Count {
+            place: c.place + 1,
+            class: c.class,
+        },
+        _ => c,
     }
 }
 
 // How many of the n factors named come before the one at place i. `named` has their rows, `keys` the keys of these.
+#[tactic(auto, using(crate::proofs::Counting::low))]
 fn count_of(keys: &[i64], named: &[u32], ranks: &[u16], i: usize, n: usize) -> Count
     requires { (i < n) × (length ranks.now ≡ 128) × Space n named.now keys.now }
     ensures { (ks : List Facts) (l : List Factorᵛ) → Counts ks l n named.now keys.now ranks.now → result ≡ count_of ks l (get_or named.now i 0) }
@@ -75,30 +73,19 @@ fn count_of(keys: &[i64], named: &[u32], ranks: &[u16], i: usize, n: usize) -> C
     let s = named[i];
     let b = ranks[s as usize];
     let mut c = Count { place: 0, class: 0 };
-    let mut j: usize = 0;
-    while j < n {
+    for j in 0..n {
         let r = named[j];
         let o = order::compare_keys(keys, j * 16, i * 16);
         let low = lower(ranks[r as usize], r, b, s);
         c = counted(c, o, low);
-        j += 1;
     }
     c
 }
 
 // ---- a list
 
-fn refused(refusal: u32, none: Items) -> Resolved
-    ensures { none ≡ no_items_lem → result ≡ unresolved refusal }
-{
-    Resolved {
-        a: none,
-        b: none,
-        refusal: refusal,
-    }
-}
-
 // A factor with what is known of its row, r.
+#[tactic(auto, using(tables::proofs::Terms::get_any))]
 fn item(scales: &[f64], based: &[bool], r: usize, f: Factor, c: Count) -> Item
     requires { (r < length scales.now) × (r < length based.now) }
     ensures { result ≡ item_by (get_or scales.now r one) (get_or based.now r false) f c }
@@ -113,30 +100,26 @@ fn item(scales: &[f64], based: &[bool], r: usize, f: Factor, c: Count) -> Item
 }
 
 // The factors of l, which stand from place `from` on among the n that are named, each with its place and class among all.
+#[tactic(auto, using(crate::proofs::Counting::low))]
 fn items(
     l: Factors,
     from: usize,
     n: usize,
     keys: &[i64],
     named: &[u32],
-    scales: &[f64],
-    ranks: &[u16],
-    based: &[bool],
+    columns: &Columns,
     none: Items,
 ) -> Items
-    requires { (l.len ≤ 16) × (from + l.len ≤ n) × (length scales.now ≡ 128) × (length ranks.now ≡ 128) × (length based.now ≡ 128) × Space n named.now keys.now }
-    ensures { (ks : List Facts) (fs : List Factorᵛ) → Fills ks fs n l from none named.now keys.now scales.now ranks.now based.now → result ≡ pack_items (view_of ks fs) (list_of l) }
+    requires { (l.len ≤ 16) × (from + l.len ≤ n) × Space n named.now keys.now }
+    ensures { (ks : List Facts) (fs : List Factorᵛ) → FillsIn ks fs n l from none named.now keys.now columns.now → result ≡ pack_items (view_of ks fs) (list_of l) }
 {
     let mut o = none;
-    let m = l.len;
-    let mut i: usize = 0;
-    while i < m {
+    for i in 0..l.len {
         let f = l.at[i];
-        let c = count_of(keys, named, ranks, from + i, n);
+        let c = count_of(keys, named, &columns.ranks, from + i, n);
         let r = named[from + i];
-        o.at[i] = item(scales, based, r as usize, f, c);
+        o.at[i] = item(&columns.scales, &columns.based, r as usize, f, c);
         o.len = i + 1;
-        i += 1;
     }
     o
 }
@@ -146,57 +129,51 @@ fn put_key(keys: &mut [i64], at: usize, k: [i64; 16])
     requires { at + 16 ≤ length keys.old }
     ensures { keys.new ≡ sets keys.old at k }
 {
-    let mut i: usize = 0;
-    while i < 16 {
-        keys[at + i] = k[i];
-        i += 1;
+    keys[at..at + 16].copy_from_slice(&k);
+}
+
+// The row of the factor at place i of two lists joined.
+fn row_at(a: &Factors, b: &Factors, i: usize) -> u32
+    requires { (length a.now.at ≡ 16) × (a.now.len ≤ 16) × (b.now.len ≤ 16) × (i < a.now.len + b.now.len) }
+    ensures { result ≡ (get_or (list_of a.now ++ list_of b.now) i no_factor).row }
+{
+    if i < a.len {
+        a.at[i].row
+    } else {
+        b.at[i - a.len].row
     }
 }
 
-// Two lists of a table of `len` rows; `none` is the empty one, which is filled, or handed back with a refusal. An admitted table has at most 128, and each has a key: these two tests only spare callers a proof of it.
+// Two lists of a table of `len` rows; `none` is the empty one, which is filled. An admitted table has at most 128, and each has a key: these two tests only spare callers a proof of it.
 pub fn resolve(
     len: usize,
-    nums: &[i32],
-    dens: &[u32],
-    scales: &[f64],
-    ranks: &[u16],
-    based: &[bool],
+    columns: &Columns,
     a: Factors,
     b: Factors,
     none: Items,
-) -> Resolved
-    requires { Room nums.now dens.now scales.now ranks.now based.now }
-    ensures { (ks : List Facts) → Reads ks len none nums.now dens.now scales.now ranks.now based.now → result ≡ resolved_of ks (both (length ks) a b) }
+) -> Result<Resolved, Refusal>
+    ensures { (ks : List Facts) → ReadsIn ks len none columns.now → result ≡ resolved_of ks (both (length ks) a b) }
 {
     if 128 < len {
-        return refused(TABLE, none);
+        return Err(Refusal::Table);
     }
-    let p = units::lists::pair_fault(len, a, b);
-    if p != 0 {
-        return refused(p, none);
-    }
+    units::lists::check_pair(len, a, b)?;
     let n = a.len;
     let m = n + b.len;
     let mut keys = [0i64; 512];
     let mut named = [0u32; 32];
-    let mut i: usize = 0;
-    while i < m {
-        let f = if i < n { a.at[i] } else { b.at[i - n] };
-        let e = pages::exps_at(nums, dens, (f.row as usize) * 16);
-        let q = keys::making::key_of(e);
-        if q.refusal != 0 {
-            return refused(q.refusal, none);
-        }
-        let k = q.nums;
-        named[i] = f.row;
+    let bases = Bases {
+        nums: &columns.nums,
+        dens: &columns.dens,
+    };
+    for i in 0..m {
+        let r = row_at(&a, &b, i);
+        let e = pages::exps_at(bases, (r as usize) * 16);
+        let k = keys::making::key_of(e)?;
+        named[i] = r;
         put_key(&mut keys, i * 16, k);
-        i += 1;
     }
-    let x = items(a, 0, m, &keys, &named, scales, ranks, based, none);
-    let y = items(b, n, m, &keys, &named, scales, ranks, based, none);
-    Resolved {
-        a: x,
-        b: y,
-        refusal: 0,
-    }
+    let x = items(a, 0, m, &keys, &named, columns, none);
+    let y = items(b, n, m, &keys, &named, columns, none);
+    Ok(Resolved { a: x, b: y })
 }

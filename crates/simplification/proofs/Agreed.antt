@@ -3,7 +3,7 @@ use mathlib.Core.Path.{◌≡◌, refl, sym, ◌∙◌, ap, subst}
 use mathlib.Core.Bool.{true, false, true≢false}
 use mathlib.Core.List.{List, [], ◌∷◌, ◌++◌}
 use Prim.Native.Nat.{ℕ}
-use Rattle.exponents.specs.Outcome.{given}
+use Rattle.exponents.specs.Outcome.{Ok}
 use Rattle.exponents.specs.declared.Exponent.{Exponent}
 use Rattle.exponents.proofs.Holds.{Holds, moot, held, take_out, holds_by}
 use Rattle.exponents.proofs.Value.{Value}
@@ -40,7 +40,7 @@ module _ (W : Value) where
   agree_before bs k l m a = agree_map W bs l m (k ++ l) (k ++ m) (λ b e. exact_join W k l b ∙ ap (W.add (exact W k b)) e ∙ sym (exact_join W k m b)) a
 
   -- ---- told by the base exponents that are worked out
-  module _ (bs : List (ℕ → Exponent)) (l m : List Factor) (xs ys : List Exponent) (p : base bs l ≡ given xs) (q : base bs m ≡ given ys) where
+  module _ (bs : List (ℕ → Exponent)) (l m : List Factor) (xs ys : List Exponent) (p : base bs l ≡ Ok xs) (q : base bs m ≡ Ok ys) where
     pub same_agree : same_all xs ys ≡ true → Agree W bs l m
     same_agree = (base_decides W bs l m xs ys p q).yea
 

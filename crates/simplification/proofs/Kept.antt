@@ -5,7 +5,7 @@ use mathlib.Core.List.{List, [], ◌∷◌, ◌++◌, flatten, append_assoc, app
 use Prim.Native.Nat.{◌<◌}
 use lib.Ieee.{Float}
 use lib.ListN.{length}
-use Rattle.exponents.specs.Outcome.{Refusal, UNITS, FRACTION, given, refused}
+use Rattle.exponents.specs.Outcome.{Refusal, UNITS, FRACTION, Ok, Err}
 use Rattle.exponents.proofs.Holds.{holds_all, Holds, Only, take_out, holds_any, holds_eq, holds_imp, holds_both, holds_map, holds_bind}
 use Rattle.exponents.proofs.Halves.{OutOfRange}
 use Rattle.exponents.proofs.Rationals.{value}
@@ -79,7 +79,7 @@ module _ (R : Rules Float) (O : Total R.order) where
 
 -- ---- in an admitted table
 
-module _ (t : Rows) (ks : List Facts) (k : table t ≡ given ks) where
+module _ (t : Rows) (ks : List Facts) (k : table t ≡ Ok ks) where
   abbrev rules : Rules Float
   rules = rules_in t ks
 
@@ -95,19 +95,19 @@ module _ (t : Rows) (ks : List Facts) (k : table t ≡ given ks) where
   form_keeps l h c e = groups_keep c (take_out (canon_atoms (λ a. a.row < length ks) rules.order l h) e)
 
   -- THE SECOND STEP: the conversion to its one factor is never refused by UNITS, whatever the value
-  pub second_never : (l c : List Factor) → canon rules.order l ≡ given c → (f : Factor) (m : List Factor) → single rules.bases c ≡ given (f ∷ m) → (v : Float) → convert rules l (f ∷ m) v ≡ refused UNITS → ⊥
+  pub second_never : (l c : List Factor) → canon rules.order l ≡ Ok c → (f : Factor) (m : List Factor) → single rules.bases c ≡ Ok (f ∷ m) → (v : Float) → convert rules l (f ∷ m) v ≡ Err UNITS → ⊥
   second_never = second_converts rules (order_in_total ks)
 
   -- THE THIRD STEP: the conversion of a group to its target is never refused by UNITS, whatever the value
   pub groups_convert : (c : List Factor) → All (Known ks) c → (v : Float) →
-      All (λ g. Holds (λ m. convert rules g m v ≡ refused UNITS → ⊥) (target rules g)) (groups rules.alike c)
+      All (λ g. Holds (λ m. convert rules g m v ≡ Err UNITS → ⊥) (target rules g)) (groups rules.alike c)
   groups_convert c h v = all_imp (groups rules.alike c) (λ g p. group_converts rules (order_in_total ks) g p v) (groups_keep c h)
 
-  pub by_groups_never : (v : Float) (c : List Factor) → All (Known ks) c → by_groups rules v c ≡ refused UNITS → ⊥
+  pub by_groups_never : (v : Float) (c : List Factor) → All (Known ks) c → by_groups rules v c ≡ Err UNITS → ⊥
   by_groups_never v c h = never (by_groups_only rules (order_in_total ks) NotUnits range_not_units fraction_not_units v c (groups_keep c h))
 
   -- of a checked list
-  module _ (u : Factors) (fs : List Factor) (h : checked (length ks) u ≡ given fs) (v : Float) where
+  module _ (u : Factors) (fs : List Factor) (h : checked (length ks) u ≡ Ok fs) (v : Float) where
     pub rows-known : All (Known ks) fs
     rows-known = all_imp fs (row_known (length ks)) (take_out (checked_passed (length ks) u) h).1
 

@@ -2,7 +2,7 @@
 use mathlib.Core.Path.{◌≡◌, ap}
 use mathlib.Core.Bool.{Bool, false}
 use mathlib.Core.List.{List}
-use Rattle.exponents.specs.Outcome.{Outcome, given, apply}
+use Rattle.exponents.specs.Outcome.{Outcome, Ok, apply}
 use Rattle.units.specs.declared.Factor.{Factor}
 use Rattle.units.specs.declared.Quantity.{Quantity}
 use Rattle.units.specs.declared.Rows.{Rows}
@@ -17,7 +17,7 @@ use Rattle.simplification.specs.Calls.{full_simplify}
 module _ (t : Rows) (q : Quantity) where
   -- what the call does with the list, under a mark
   abbrev pub work : Bool → List Facts → List Factor → Outcome Quantity
-  work m ks fs = pick m (apply quantity_of (simplify (rules_in t ks) q.value fs)) (given (made false q.value fs))
+  work m ks fs = pick m (apply quantity_of (simplify (rules_in t ks) q.value fs)) (Ok (made false q.value fs))
 
   pub by_mark : (m : Bool) → q.mark ≡ m → full_simplify t q ≡ Call1 t q.unit (work m)
   unfolding full_simplify

@@ -6,7 +6,7 @@ use Prim.Native.Nat.{ℕ}
 use lib.Dec.{eqb, ltb}
 use lib.Ieee.{Float}
 use lib.ListN.{length, get_or}
-use Rattle.exponents.specs.Outcome.{Refusal, UNITS, FRACTION, number, Outcome, given, refused}
+use Rattle.exponents.specs.Outcome.{Refusal, UNITS, FRACTION, number, Outcome, Ok, Err}
 use Rattle.exponents.specs.Fractions.{nought, same}
 use Rattle.exponents.specs.declared.Exponent.{Exponent}
 use Rattle.exponents.proofs.Holds.{Holds, Only, fine, only, take_out, only_out, only_map, only_bind, holds_imp}
@@ -75,7 +75,7 @@ module _ (S : Refusal → Type 0) (range : (r : Refusal) → OutOfRange r → S 
 abbrev pub NotUnits : Refusal → Type 0
 NotUnits r = r ≡ UNITS → ⊥
 
-pub never : {A : Type 0} {o : Outcome A} → Only NotUnits o → o ≡ refused UNITS → ⊥
+pub never : {A : Type 0} {o : Outcome A} → Only NotUnits o → o ≡ Err UNITS → ⊥
 never h e = only_out h e refl
 
 pub fraction_not_units : NotUnits FRACTION
@@ -84,10 +84,10 @@ fraction_not_units e = units_not_fraction (sym e)
 -- UNITS goes on to the next step
 attempt_only : (S : Refusal → Type 0) (o : Outcome Float) (m : List Factor) (next : Outcome Amount) → Only (λ r. NotUnits r → S r) o → Only S next → Only S (attempt o m next)
 unfolding attempt go_on
-attempt_only S (given v) m next k h = fine
-attempt_only S (refused r) m next k h = go (eqb (number r) (number UNITS)) refl
+attempt_only S (Ok v) m next k h = fine
+attempt_only S (Err r) m next k h = go (eqb (number r) (number UNITS)) refl
   where
-    go : (t : Bool) → eqb (number r) (number UNITS) ≡ t → Only S (pick t next (refused r))
+    go : (t : Bool) → eqb (number r) (number UNITS) ≡ t → Only S (pick t next (Err r))
     go true e = h
     go false e = only (only_out k refl (λ q. true≢false (sym (ap (λ s. eqb (number s) (number UNITS)) q) ∙ e)))
 
@@ -98,7 +98,7 @@ module _ (R : Rules Float) (O : Total R.order) where
 
   -- those of the groups of the canonical form of l do
   abbrev pub GroupsKeep : List Factor → Type 0
-  GroupsKeep l = (c : List Factor) → canon R.order l ≡ given c → All Keeps (groups R.alike c)
+  GroupsKeep l = (c : List Factor) → canon R.order l ≡ Ok c → All Keeps (groups R.alike c)
 
   -- ---- refused by what leaves the range and by FRACTION alone
   module _ (S : Refusal → Type 0) (range : (r : Refusal) → OutOfRange r → S r) (fraction : S FRACTION) where
@@ -140,11 +140,11 @@ module _ (R : Rules Float) (O : Total R.order) where
     simplify_only v l k = attempt_only S _ [] (further R v l) (tried_only l [] v) (further_only v l k)
 
   -- the conversion of a group to its target is never refused by UNITS
-  pub group_converts : (g : List Factor) → Keeps g → (v : Float) → Holds (λ m. convert R g m v ≡ refused UNITS → ⊥) (target R g)
+  pub group_converts : (g : List Factor) → Keeps g → (v : Float) → Holds (λ m. convert R g m v ≡ Err UNITS → ⊥) (target R g)
   group_converts g k v = holds_imp k λ m a. never (agreeing_only NotUnits range_not_units fraction_not_units g m v a)
 
   -- nor is that of the second step: its factor has the base exponents of the list, so that the first one that fits ends the search
-  pub second_converts : (l c : List Factor) → canon R.order l ≡ given c → (f : Factor) (m : List Factor) → single R.bases c ≡ given (f ∷ m) → (v : Float) → convert R l (f ∷ m) v ≡ refused UNITS → ⊥
+  pub second_converts : (l c : List Factor) → canon R.order l ≡ Ok c → (f : Factor) (m : List Factor) → single R.bases c ≡ Ok (f ∷ m) → (v : Float) → convert R l (f ∷ m) v ≡ Err UNITS → ⊥
   second_converts l c e f m s v =
       never (agreeing_only NotUnits range_not_units fraction_not_units l (f ∷ m) v
       (agree_trans value R.bases l c (f ∷ m) (take_out (canon_agree value R O l) e) (take_out (single_found R.bases c) s)))

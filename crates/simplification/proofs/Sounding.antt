@@ -8,7 +8,7 @@ use lib.Dec.{eqb, ltb}
 use lib.Ieee.{Float}
 use lib.ListN.{length, length-append, length-take}
 use borrow.Author.Tests.{ltb-true, ltb-false, le-ltb, not-false}
-use Rattle.exponents.specs.Outcome.{Outcome, given, refused, SHAPE, UNKNOWN, UNITS, number, unless}
+use Rattle.exponents.specs.Outcome.{Outcome, Ok, Err, SHAPE, UNKNOWN, UNITS, number, unless}
 use Rattle.exponents.specs.Fractions.{faulty}
 use Rattle.exponents.specs.declared.Exponent.{Exponent}
 use Rattle.exponents.proofs.Holds.{holds_all, Holds, moot, held, holds_by, holds_imp, holds_both, holds_unless, holds_map, holds_bind, take_out}
@@ -35,8 +35,8 @@ use Rattle.simplification.specs.Steps.{Amount, go_on, attempt, grown, converted,
 -- ---- from step to step: what holds of each answer of a conversion, and of what follows after UNITS
 pub attempt_holds : (P : Amount → Type 0) (o : Outcome Float) (m : List Factor) (next : Outcome Amount) → Holds (λ x. P (x, m)) o → Holds P next → Holds P (attempt o m next)
 unfolding attempt go_on
-attempt_holds P (given x) m next (held h) k = held h
-attempt_holds P (refused r) m next h k = pick_is (Holds P) (eqb (number r) (number UNITS)) k moot
+attempt_holds P (Ok x) m next (held h) k = held h
+attempt_holds P (Err r) m next h k = pick_is (Holds P) (eqb (number r) (number UNITS)) k moot
 
 pub toward_holds : (P : Amount → Type 0) (R : Rules Float) (v : Float) (l m : List Factor) (next : Outcome Amount) → Holds (λ x. P (x, m)) (convert R l m v) → Holds P next → Holds P (toward R v l m next)
 unfolding toward
@@ -114,10 +114,10 @@ module _ (rows : ℕ) where
         all_pass (list_of u) (each_faultless factor_fault (list_of u) (or_right (ltb 16 u.len) (some factor_fault (list_of u)) s)) (each_faultless (unknown rows) (list_of u) k),
       )
 
-  pub passed_checked : (l : List Factor) → Passed l → checked rows (pack l) ≡ given l
+  pub passed_checked : (l : List Factor) → Passed l → checked rows (pack l) ≡ Ok l
   unfolding checked unless
   passed_checked l h =
       rw (list_pack l, len_pack l, le-ltb 16 (length l) h.0, none_faulty factor_fault l (all_imp l (λ f p. p.0) h.1), none_faulty (unknown rows) l (all_imp l (λ f p. p.1) h.1))
 
-pub simplify_checked : (R : Rules Float) (rows : ℕ) (u : Factors) (fs : List Factor) → checked rows u ≡ given fs → (v : Float) → Holds (λ a. checked rows (pack a.1) ≡ given a.1) (simplify R v fs)
+pub simplify_checked : (R : Rules Float) (rows : ℕ) (u : Factors) (fs : List Factor) → checked rows u ≡ Ok fs → (v : Float) → Holds (λ a. checked rows (pack a.1) ≡ Ok a.1) (simplify R v fs)
 simplify_checked R rows u fs e v = holds_imp (simplify_within (Passes rows) (passes_still rows) R 16 v fs (take_out (checked_passed rows u) e)) λ a. passed_checked rows a.1

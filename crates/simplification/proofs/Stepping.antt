@@ -1,21 +1,19 @@
 -- Simplification's first two steps as the code takes them: how each ends, and how it goes on after UNITS.
-use mathlib.Core.Path.{◌≡◌, refl, sym, ap, ◌∙◌}
+use mathlib.Core.Path.{◌≡◌, refl, ap, ◌∙◌}
 use mathlib.Core.List.{List, [], ◌∷◌}
-use Prim.Native.Nat.{ℕ, ◌<◌}
+use Prim.Native.Nat.{◌<◌}
 use native.Mathlib.Omega.{arith}
 use lib.Ieee.{Float}
 use lib.ListN.{length, drop_of_length-le}
-use borrow.Author.Tests.{eq-eqb, ne_eqb, lt-ltb, le-ltb}
-use Rattle.exponents.specs.Outcome.{Refusal, Outcome, given, refused, number, bind}
-use Rattle.exponents.proofs.Holds.{bind_given}
-use Rattle.exponents.proofs.Numbers.{Refuses}
+use borrow.Author.Tests.{ne_eqb, lt-ltb, le-ltb}
+use Rattle.exponents.specs.declared.refusals.Refusal.TheVariants as refusal
+use Rattle.exponents.specs.Outcome.{Refusal, UNITS, Outcome, Ok, Err, number, bind}
+use Rattle.exponents.proofs.Holds.{bind_given, bind_refused}
 use Rattle.units.specs.declared.Factor.{Factor}
 use Rattle.tables.specs.Lists.{base}
 use Rattle.exponents.specs.Words.{pick}
 use Rattle.canonical.specs.Canonical.{canon}
 use Rattle.reduction.specs.Multiple.{is_multiple}
-use Rattle.lists.proofs.Ends.{bind_refuses}
-use Rattle.quantities.proofs.Converting.{refuses_as}
 use Rattle.targets.specs.Single.{search, single}
 use Rattle.tables.specs.Rules.{Rules}
 use Rattle.conversion.specs.Conversion.{convert}
@@ -24,22 +22,40 @@ use Rattle.simplification.specs.Steps.{Amount, go_on, attempt}
 
 -- ---- from step to step
 
-pub goes_on : (r : Refusal) (next : Outcome Amount) → number r ≡ 6 → go_on r next ≡ next
+stays : (r : Refusal) (next : Outcome Amount) → (r ≡ UNITS → ⊥) → go_on r next ≡ Err r
 unfolding go_on
-goes_on r next e = ap (λ t. pick t next (refused r)) (eq-eqb (number r) 6 e)
-
-pub stays : (r : Refusal) (next : Outcome Amount) (n : ℕ) → n ≡ number r → (n ≡ 6 → ⊥) → Refuses (go_on r next) n
-unfolding go_on
-stays r next n e h = record { why = r; is = ap (λ t. pick t next (refused r)) (ne_eqb (number r) 6 (λ z. h (e ∙ z))); numbered = sym e }
+stays r next h = ap (λ t. pick t next (Err r)) (ne_eqb (number r) 6 (λ e. h (sixth r e)))
+  where
+    sixth : (r : Refusal) → number r ≡ 6 → r ≡ UNITS
+    sixth refusal.Table e = absurd (omega arith)
+    sixth refusal.Shape e = absurd (omega arith)
+    sixth refusal.Unknown e = absurd (omega arith)
+    sixth refusal.Room e = absurd (omega arith)
+    sixth refusal.Range e = absurd (omega arith)
+    sixth refusal.Units e = refl
+    sixth refusal.Fraction e = absurd (omega arith)
+    sixth refusal.DivZero e = absurd (omega arith)
+    sixth refusal.ZeroNeg e = absurd (omega arith)
+    sixth refusal.NonWhole e = absurd (omega arith)
+    sixth refusal.Nan e = absurd (omega arith)
+    sixth refusal.Format e = absurd (omega arith)
+    sixth refusal.Denominator e = absurd (omega arith)
+    sixth refusal.Order e = absurd (omega arith)
+    sixth refusal.Multiple e = absurd (omega arith)
+    sixth refusal.Argument e = absurd (omega arith)
 
 module _ {o : Outcome Float} (m : List Factor) (next : Outcome Amount) where
-  pub attempt_given : (x : Float) → o ≡ given x → attempt o m next ≡ given (x, m)
+  pub attempt_given : (x : Float) → o ≡ Ok x → attempt o m next ≡ Ok (x, m)
   unfolding attempt
   attempt_given x e = ap (λ o. attempt o m next) e
 
-  pub attempt_refused : (r : Refusal) → o ≡ refused r → attempt o m next ≡ go_on r next
+  pub attempt_units : o ≡ Err UNITS → attempt o m next ≡ next
+  unfolding attempt go_on
+  attempt_units e = ap (λ o. attempt o m next) e
+
+  pub attempt_refused : (r : Refusal) → (r ≡ UNITS → ⊥) → o ≡ Err r → attempt o m next ≡ Err r
   unfolding attempt
-  attempt_refused r e = ap (λ o. attempt o m next) e
+  attempt_refused r h e = ap (λ o. attempt o m next) e ∙ stays r next h
 
 module _ (R : Rules Float) where
   -- ---- second step
@@ -57,29 +73,29 @@ module _ (R : Rules Float) where
         go (f ∷ m) h = refl
 
   module _ (c : List Factor) where
-    single_few : length c < 2 → single R.bases c ≡ given []
+    single_few : length c < 2 → single R.bases c ≡ Ok []
     unfolding single
-    single_few h = ap (λ t. pick t (search R.bases c c) (given [])) (le-ltb 1 (length c) (omega arith))
+    single_few h = ap (λ t. pick t (search R.bases c c) (Ok [])) (le-ltb 1 (length c) (omega arith))
 
     single_more : (length c < 2 → ⊥) → single R.bases c ≡ search R.bases c c
     unfolding single
-    single_more h = ap (λ t. pick t (search R.bases c c) (given [])) (lt-ltb 1 (length c) (omega arith))
+    single_more h = ap (λ t. pick t (search R.bases c c) (Ok [])) (lt-ltb 1 (length c) (omega arith))
 
     -- the list's own base exponents are worked out first
-    pub search_range : (length c < 2 → ⊥) → (n : ℕ) → Refuses (base R.bases c) n → Refuses (search R.bases c c) n
+    pub search_range : (length c < 2 → ⊥) → (r : Refusal) → base R.bases c ≡ Err r → search R.bases c c ≡ Err r
     unfolding search is_multiple
-    search_range h n r = go c (omega arith)
+    search_range h r e = go c (omega arith)
       where
-        go : (l : List Factor) → 0 < length l → Refuses (search R.bases c l) n
+        go : (l : List Factor) → 0 < length l → search R.bases c l ≡ Err r
         go [] h = absurd (omega arith)
-        go (f ∷ l) h = bind_refuses _ _ n (bind_refuses (base R.bases c) _ n r)
+        go (f ∷ l) h = bind_refused _ (bind_refused _ e)
 
   module _ (x : Float) (l : List Factor) where
-    pub form_stops : (n : ℕ) → Refuses (canon R.order l) n → Refuses (spec.further R x l) n
+    pub form_stops : (r : Refusal) → canon R.order l ≡ Err r → spec.further R x l ≡ Err r
     unfolding spec.further
-    form_stops n r = bind_refuses (canon R.order l) _ n r
+    form_stops r e = bind_refused _ e
 
-    module _ (c : List Factor) (is : canon R.order l ≡ given c) where
+    module _ (c : List Factor) (is : canon R.order l ≡ Ok c) where
       form_next : spec.further R x l ≡ bind (single R.bases c) (λ m. spec.toward R x l m (spec.by_groups R x c))
       unfolding spec.further
       form_next = bind_given _ is
@@ -91,8 +107,8 @@ module _ (R : Rules Float) where
         searched : spec.further R x l ≡ bind (search R.bases c c) (λ m. spec.toward R x l m (spec.by_groups R x c))
         searched = form_next ∙ ap (λ o. bind o (λ m. spec.toward R x l m (spec.by_groups R x c))) (single_more c h)
 
-        pub search_stops : (n : ℕ) → Refuses (search R.bases c c) n → Refuses (spec.further R x l) n
-        search_stops n r = refuses_as _ _ n searched (bind_refuses (search R.bases c c) _ n r)
+        pub search_stops : (r : Refusal) → search R.bases c c ≡ Err r → spec.further R x l ≡ Err r
+        search_stops r e = searched ∙ bind_refused _ e
 
-        pub search_found : (m : List Factor) → search R.bases c c ≡ given m → spec.further R x l ≡ spec.toward R x l m (spec.by_groups R x c)
+        pub search_found : (m : List Factor) → search R.bases c c ≡ Ok m → spec.further R x l ≡ spec.toward R x l m (spec.by_groups R x c)
         search_found m e = searched ∙ bind_given _ e

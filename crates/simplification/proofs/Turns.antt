@@ -7,19 +7,17 @@ use lib.Ieee.{Float, binary64, mul}
 use lib.ListN.{length, drop, length-drop, drop_of_length-le}
 use lib.Seq.{drop-drop}
 use Rattle.exponents.specs.Words.{All}
-use Rattle.exponents.specs.Outcome.{Outcome, given, apply, bind}
-use Rattle.exponents.proofs.Holds.{take_out, bind_given}
-use Rattle.exponents.proofs.Numbers.{Refuses, struct_answers, struct_refuses}
+use Rattle.exponents.specs.Outcome.{Refusal, Outcome, Ok, Err, apply, bind}
+use Rattle.exponents.proofs.Holds.{take_out, bind_given, bind_refused}
+use Rattle.exponents.proofs.Numbers.{apply_answers, apply_refuses}
 use Rattle.floats.specs.Power.{one}
 use Rattle.units.specs.declared.Factor.{Factor}
 use Rattle.units.specs.Lists.{factor_fault}
 use Rattle.tables.specs.declared.Items.{Items}
-use Rattle.tables.specs.Held.{View, Stands, Placed, Resolved, pack_items, no_items_lem, rules_by}
+use Rattle.tables.specs.Held.{View, Stands, Placed, Resolved, pack_items, packed, rules_by}
 use Rattle.tables.proofs.Resolved.{none_resolved}
 use Rattle.canonical.specs.Canonical.{canon}
 use Rattle.canonical.proofs.Keeping.{each_faultless, none_faulty, Kept, kept_with}
-use Rattle.lists.proofs.Ends.{bind_refuses}
-use Rattle.quantities.proofs.Converting.{map_refuses, refuses_as}
 use Rattle.targets.specs.Groups.{groups, target}
 use Rattle.targets.specs.Held.{leading}
 use Rattle.tables.specs.Rules.{Rules}
@@ -38,19 +36,19 @@ module _ (R : Rules Float) where
     abbrev aim : Outcome (List Factor)
     aim = target R g
 
-    pub target_stops : (n : ℕ) → Refuses aim n → Refuses (spec.grown R s u g) n
+    pub target_stops : (r : Refusal) → aim ≡ Err r → spec.grown R s u g ≡ Err r
     unfolding spec.grown
-    target_stops n r = bind_refuses aim _ n r
+    target_stops r e = bind_refused _ e
 
-    module _ (m : List Factor) (is : aim ≡ given m) where
+    module _ (m : List Factor) (is : aim ≡ Ok m) where
       aimed : spec.grown R s u g ≡ apply (λ x. (mul binary64 s x, u ++ m)) (convert R g m one)
       unfolding spec.grown
       aimed = bind_given _ is
 
-      pub conversion_stops : (n : ℕ) → Refuses (convert R g m one) n → Refuses (spec.grown R s u g) n
-      conversion_stops n r = refuses_as _ _ n aimed (map_refuses (λ x. (mul binary64 s x, u ++ m)) (convert R g m one) n r)
+      pub conversion_stops : (r : Refusal) → convert R g m one ≡ Err r → spec.grown R s u g ≡ Err r
+      conversion_stops r e = aimed ∙ ap (apply (λ x. (mul binary64 s x, u ++ m))) e
 
-      pub group_done : (x : Float) → convert R g m one ≡ given x → spec.grown R s u g ≡ given (mul binary64 s x, u ++ m)
+      pub group_done : (x : Float) → convert R g m one ≡ Ok x → spec.grown R s u g ≡ Ok (mul binary64 s x, u ++ m)
       group_done x e = aimed ∙ ap (apply (λ x. (mul binary64 s x, u ++ m))) e
 
     -- where the group is resolved
@@ -59,11 +57,11 @@ module _ (R : Rules Float) where
       kept = each_faultless factor_fault g q.shaped
 
       -- a target has at most one factor
-      pub aim_short : (m : List Factor) → aim ≡ given m → length m ≤ 1
+      pub aim_short : (m : List Factor) → aim ≡ Ok m → length m ≤ 1
       aim_short m e = (take_out (target_within Kept kept_with R g kept) e).0
 
       -- joined to a resolved list, it is resolved
-      grown_resolved : {l : Items} → Resolved v l u → length u < 16 → (a : Amount) → spec.grown R s u g ≡ given a → (length a.1 ≤ length u + 1) × Resolved v (pack_items v a.1) a.1
+      grown_resolved : {l : Items} → Resolved v l u → length u < 16 → (a : Amount) → spec.grown R s u g ≡ Ok a → (length a.1 ≤ length u + 1) × Resolved v (pack_items v a.1) a.1
       grown_resolved r h a e =
           let m = take_out (grown_within Kept kept_with R (length u) s u g (omega arith, each_faultless factor_fault u r.shaped) kept) e in
           let n = take_out (grown_within (λ f. Stands f.row v.among) (λ f e p s. p) R (length u) s u g (omega arith, r.named) q.named) e in
@@ -106,23 +104,21 @@ module _ (R : Rules Float) where
       abbrev own : Amount → Amount
       own p = (mul binary64 x p.0, p.1)
 
-      pub groups_refuse : (n : ℕ) → Refuses whole n → Refuses (spec.by_groups R x cs) n
+      pub groups_refuse : (r : Refusal) → whole ≡ Err r → spec.by_groups R x cs ≡ Err r
       unfolding spec.by_groups
-      groups_refuse n r = map_refuses own whole n r
+      groups_refuse r e = ap (apply own) e
 
-      pub groups_give : (a : Amount) → whole ≡ given a → spec.by_groups R x cs ≡ given (own a)
+      pub groups_give : (a : Amount) → whole ≡ Ok a → spec.by_groups R x cs ≡ Ok (own a)
       unfolding spec.by_groups
       groups_give a e = ap (apply own) e
 
 -- ---- one group, as code ends it
+module _ (v : View) (o : Outcome Amount) (j : ℕ) where
+  pub halted : (r : Refusal) → o ≡ Err r → ◌≡◌ {A = Outcome Progress} (Err r) (apply (progress_of v j) o)
+  halted r e = sym (ap (apply (progress_of v j)) e)
 
--- refused: nothing but where the next one starts, beside the number
-pub halted : (v : View) (o : Outcome Amount) (i j k : ℕ) (r : Progress) → r ≡ record { unit = no_items_lem; factor = one; next = i; refusal = k } → i ≡ j → Refuses o k → r ≡ progress_of v j o
-halted v o i j k r e h w = e ∙ ap₂ (λ (i k : ℕ). record { unit = no_items_lem; factor = one; next = i; refusal = k }) h (sym w.numbered) ∙ ap (progress_of v j) (sym w.is)
-
--- converted
-pub moved : (v : View) (o : Outcome Amount) (i j : ℕ) (s : Float) (u : List Factor) (w : Items) → w ≡ pack_items v u → i ≡ j → o ≡ given (s, u) → record { unit = w; factor = s; next = i; refusal = 0 } ≡ progress_of v j o
-moved v o i j s u w e h g = ap₂ (λ (w : Items) (i : ℕ). record { unit = w; factor = s; next = i; refusal = 0 }) e h ∙ ap (progress_of v j) (sym g)
+  pub moved : (i : ℕ) (s : Float) (u : List Factor) (w : Items) → w ≡ pack_items v u → i ≡ j → o ≡ Ok (s, u) → ◌≡◌ {A = Outcome Progress} (Ok (record { unit = w; factor = s; next = i })) (apply (progress_of v j) o)
+  moved i s u w e h g = ap₂ (λ (w : Items) (i : ℕ). Ok (record { unit = w; factor = s; next = i })) e h ∙ ap (apply (progress_of v j)) (sym g)
 
 -- ---- all groups, as code goes through them: what it holds after those before place `next`
 module _ (v : View) (n : ℕ) (cs : List Factor) where
@@ -136,8 +132,8 @@ module _ (v : View) (n : ℕ) (cs : List Factor) where
     pub within : p.next ≤ length cs
     pub so_far : left R cs p.next p.factor targets ≡ whole R cs
 
-  pub along_none : Placed v → (p : Progress) → p ≡ record { unit = no_items_lem; factor = one; next = 0; refusal = 0 } → Along p
-  along_none h p e = subst Along (sym e) (record { targets = []; unit = none_resolved v h no_items_lem refl; few = omega arith; within = omega arith; so_far = refl })
+  pub along_none : Placed v → (p : Progress) → (u : Items) → u ≡ packed [] → p ≡ record { unit = u; factor = one; next = 0 } → Along p
+  along_none h p u q e = subst Along (sym e) (record { targets = []; unit = none_resolved v h u q; few = omega arith; within = omega arith; so_far = refl })
 
   module _ {c : Items} (l : Resolved v c cs) (p : Progress) (a : Along p) where
     abbrev turn : Outcome Amount
@@ -150,35 +146,32 @@ module _ (v : View) (n : ℕ) (cs : List Factor) where
       pub grows : Grows v p c a.targets cs
       grows = record { whole = l; done = a.unit; fewer = a.few; more = h }
 
-      module _ (r : Progress) (e : r ≡ progress_of v after turn) where
-        pub along_on : r.refusal ≡ 0 → Along r
-        along_on z =
-            let t = struct_answers (progress_of v after) (λ (y : Progress). y.refusal) (λ a. refl) (λ w. refl) turn r e z in
-            let b = t.answer in
-            let g = group_resolved l p.next (pack_items v (next_group v p cs)) refl in
-            let new = grown_resolved R p.factor a.targets (next_group v p cs) g a.unit (omega (arith, a.few, l.short)) b t.is in
-            let done : Progress = record { unit = pack_items v b.1; factor = b.0; next = after; refusal = 0 } in
-            let next : Along done = record {
-              targets = b.1;
-              unit = new.1;
-              few = omega (arith, new.0, a.few, group_some R cs p.next h);
-              within = group_within R cs p.next (omega arith);
-              so_far = sym (bind_given (λ (p : Amount). left R cs after p.0 p.1) t.is) ∙ sym (group_turn R cs p.next h p.factor a.targets) ∙ a.so_far;
-            } in
-            subst Along (sym (e ∙ ap (progress_of v after) t.is)) next
+      pub along_on : (r : Progress) → ◌≡◌ {A = Outcome Progress} (Ok r) (apply (progress_of v after) turn) → Along r
+      along_on r e =
+          let t = apply_answers (progress_of v after) turn r (sym e) in
+          let b = t.answer in
+          let g = group_resolved l p.next (pack_items v (next_group v p cs)) refl in
+          let new = grown_resolved R p.factor a.targets (next_group v p cs) g a.unit (omega (arith, a.few, l.short)) b t.is in
+          let next : Along (progress_of v after b) = record {
+            targets = b.1;
+            unit = new.1;
+            few = omega (arith, new.0, a.few, group_some R cs p.next h);
+            within = group_within R cs p.next (omega arith);
+            so_far = sym (bind_given (λ (p : Amount). left R cs after p.0 p.1) t.is) ∙ sym (group_turn R cs p.next h p.factor a.targets) ∙ a.so_far;
+          } in
+          subst Along t.made next
 
-        pub along_off : (x : Float) → (r.refusal ≡ 0 → ⊥) → Refuses (spec.by_groups R x cs) r.refusal
-        along_off x z =
-            let t = struct_refuses (progress_of v after) (λ (y : Progress). y.refusal) (λ a. refl) (λ w. refl) turn r e z in
-            groups_refuse R cs x r.refusal
-            (refuses_as _ _ _ (sym a.so_far ∙ group_turn R cs p.next h p.factor a.targets) (bind_refuses turn _ _ t))
+      pub along_off : (x : Float) (r : Refusal) → ◌≡◌ {A = Outcome Progress} (Err r) (apply (progress_of v after) turn) → spec.by_groups R x cs ≡ Err r
+      along_off x r e =
+          groups_refuse R cs x r
+          (sym a.so_far ∙ group_turn R cs p.next h p.factor a.targets ∙ bind_refused _ (apply_refuses (progress_of v after) turn r (sym e)))
 
   module _ (p : Progress) (a : Along p) (x : Float) (h : length cs ≤ p.next) where
     over : whole R cs ≡ apply (λ c. (p.factor, c)) (canon R.order a.targets)
     over = sym a.so_far ∙ groups-over R cs p.next p.factor a.targets h
 
-    pub along_unformed : (k : ℕ) → Refuses (canon R.order a.targets) k → Refuses (spec.by_groups R x cs) k
-    along_unformed k r = groups_refuse R cs x k (refuses_as _ _ k over (map_refuses (λ c. (p.factor, c)) (canon R.order a.targets) k r))
+    pub along_unformed : (r : Refusal) → canon R.order a.targets ≡ Err r → spec.by_groups R x cs ≡ Err r
+    along_unformed r e = groups_refuse R cs x r (over ∙ ap (apply (λ c. (p.factor, c))) e)
 
-    pub along_end : (c : List Factor) → canon R.order a.targets ≡ given c → spec.by_groups R x cs ≡ given (mul binary64 x p.factor, c)
+    pub along_end : (c : List Factor) → canon R.order a.targets ≡ Ok c → spec.by_groups R x cs ≡ Ok (mul binary64 x p.factor, c)
     along_end c e = groups_give R cs x (p.factor, c) (over ∙ ap (apply (λ c. (p.factor, c))) e)

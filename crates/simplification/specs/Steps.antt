@@ -3,7 +3,7 @@ use Rattle.std.specs.Prelude.{List, [], ◌∷◌, ◌++◌, eqb, Float}
 use Rattle.std.specs.Float.{binary64}
 use Rattle.std.specs.Float.Ieee.{mul}
 use Rattle.exponents.specs.Words.{pick}
-use Rattle.exponents.specs.Outcome.{Refusal, Outcome, given, refused, UNITS, number, apply, bind}
+use Rattle.exponents.specs.Outcome.{Refusal, Outcome, Ok, Err, UNITS, number, apply, bind}
 use Rattle.floats.specs.Power.{one}
 use Rattle.units.specs.declared.Factor.{Factor}
 use Rattle.units.specs.declared.Quantity.{Quantity}
@@ -26,12 +26,12 @@ quantity_of a = fresh a.0 a.1
 
 -- the next step after UNITS
 unfoldable pub go_on : Refusal → Outcome Amount → Outcome Amount
-go_on r next = pick (eqb (number r) (number UNITS)) next (refused r)
+go_on r next = pick (eqb (number r) (number UNITS)) next (Err r)
 
 -- a conversion to the list m that answers ends the search
 unfoldable pub attempt : Outcome Float → List Factor → Outcome Amount → Outcome Amount
-attempt (given v) m next = given (v, m)
-attempt (refused r) m next = go_on r next
+attempt (Ok v) m next = Ok (v, m)
+attempt (Err r) m next = go_on r next
 
 module _ (R : Rules Float) where
   -- ---- third step: factors grouped by key

@@ -1,155 +1,111 @@
-// The three steps of simplification on a resolved list (01, "Simplification"). Each is handed the refusal of the step before: only UNITS lets it go on.
-ghost use Rattle.std.specs.Prelude.{◌≡◌, List, [], ◌+◌, ◌≤◌, ◌<◌};
-ghost use Rattle.exponents.specs.Outcome.{Refusal, number};
+// The three steps of simplification on a resolved list (01, "Simplification"). Only UNITS lets a step be followed by the next: other refusals are answered at once.
+ghost use Rattle.std.specs.Prelude.{◌≡◌, List, [], ◌+◌, ◌≤◌, ◌<◌, IfOk};
 ghost use Rattle.units.specs.declared.Factor.{Factor as Factorᵛ};
-ghost use Rattle.floats.specs.Power.{one};
-ghost use Rattle.tables.specs.Held.{View, packed, rules_by, Lends, Resolved};
+ghost use Rattle.tables.specs.Held.{View, rules_by, LendsIn, Resolved};
 ghost use Rattle.simplification.specs.Steps as spec;
-ghost use Rattle.simplification.specs.Steps.{go_on};
 ghost use Rattle.simplification.specs.Held.{Grows, handed, with_group};
 
 use canonical::form;
 use conversion::convert;
-use conversion::convert::Converted;
-use exponents::refusals::UNITS;
+use exponents::refusals::Refusal;
 use reduction::bases;
 use tables::Items;
+use tables::pages::Bases;
 use targets::{groups, single};
+use units::Quantity;
 use values::answers;
-use values::answers::Answer;
 
 // ---- third step
 
-// The groups before place `next`: their targets joined, and the product of 1 of each converted; or the number of the refusal.
+// The groups before place `next`: their targets joined, and the product of 1 of each converted.
 #[derive(Clone, Copy, Drop)]
 pub struct Progress {
     pub unit: Items,
     pub factor: f64,
     pub next: usize,
-    pub refusal: u32,
-}
-
-// Nothing but where the next group starts, beside the number of the refusal.
-fn stopped(next: usize, refusal: u32) -> Progress
-    ensures { result ≡ record { unit = packed []; factor = one; next = next; refusal = refusal } }
-{
-    let none = tables::no_items();
-    Progress {
-        unit: none,
-        factor: 1.0,
-        next: next,
-        refusal: refusal,
-    }
 }
 
 // One group more, the one that starts at `next`: its target, then its conversion.
-fn with_group(p: Progress, c: Items, n: usize, nums: &[i32], dens: &[u32]) -> Progress
+fn with_group(p: Progress, c: Items, n: usize, bases: Bases) -> Result<Progress, Refusal>
     requires { p.next < 16 }
-    ensures { ((p.next < result.next) × (result.next ≤ 32)) × ((v : View) (us cs : List Factorᵛ) → Lends v n nums.now dens.now → Grows v p c us cs → result ≡ with_group v n p us cs) }
+    ensures rises { IfOk result (λ q. (p.next < q.next) × (q.next ≤ 32)) }
+    ensures value { (v : View) (us cs : List Factorᵛ) → LendsIn v n bases.entry → Grows v p c us cs → result ≡ with_group v n p us cs }
 {
     let i = p.next;
     let g = groups::group_at(c, i);
-    let end = i + g.len;
-    let t = groups::target_of(g, n, nums, dens);
-    if t.refusal != 0 {
-        return stopped(end, t.refusal);
-    }
-    let m = t.list;
-    let y = convert::convert(1.0, g, m, n, nums, dens);
-    let Converted::Value(z) = y else {
-        return stopped(end, convert::refusal_of(y));
-    };
-    let u = p.unit;
-    let w = groups::joined(u, m);
-    Progress {
-        unit: w,
+    let m = groups::target_of(g, n, bases)?;
+    let z = convert::convert(1.0, g, m, n, bases)?;
+    Ok(Progress {
+        unit: groups::joined(p.unit, m),
         factor: p.factor * z,
-        next: end,
-        refusal: 0,
-    }
+        next: i + g.len,
+    })
 }
 
 // x of the canonical list c, group by group.
-fn by_groups(refusal: u32, x: f64, c: Items, n: usize, nums: &[i32], dens: &[u32]) -> Answer
-    ensures { (why : Refusal) (v : View) (cs : List Factorᵛ) → refusal ≡ number why → Lends v n nums.now dens.now → Resolved v c cs → result ≡ handed (go_on why (spec.by_groups (rules_by v n) x cs)) }
+fn by_groups(x: f64, c: Items, n: usize, bases: Bases) -> Result<Quantity, Refusal>
+    ensures { (v : View) (cs : List Factorᵛ) → LendsIn v n bases.entry → Resolved v c cs → result ≡ handed (spec.by_groups (rules_by v n) x cs) }
 {
-    if refusal != UNITS {
-        return answers::refused(refusal);
-    }
     let m = bases::capped(c.len);
-    let mut p = stopped(0, 0);
+    let mut p = Progress {
+        unit: tables::no_items(),
+        factor: 1.0,
+        next: 0,
+    };
+    // Kept: a turn takes a whole group, so how far it goes is the group's to say.
     while p.next < m {
-        p = with_group(p, c, n, nums, dens);
-        if p.refusal != 0 {
-            return answers::refused(p.refusal);
-        }
+        p = with_group(p, c, n, bases)?;
     }
-    let u = p.unit;
-    let k = form::merged(u);
-    if k.refusal != 0 {
-        return answers::refused(k.refusal);
-    }
-    let w = k.list;
+    let w = form::merged(p.unit)?;
     let l = lists::opening::factors_of(w);
-    answers::with_mark(x * p.factor, l, true)
+    Ok(answers::with_mark(x * p.factor, l, true))
 }
 
 // ---- second step
 
 // x of the list l, whose canonical form is c, to the one factor of t; to the groups of c where t is empty.
-fn toward(x: f64, l: Items, t: Items, c: Items, n: usize, nums: &[i32], dens: &[u32]) -> Answer
-    ensures { (v : View) (fs ms cs : List Factorᵛ) → Lends v n nums.now dens.now → Resolved v l fs → Resolved v t ms → Resolved v c cs → result ≡ handed (spec.toward (rules_by v n) x fs ms (spec.by_groups (rules_by v n) x cs)) }
+#[tactic(auto, using(crate::proofs::Stepping::toward_nothing, crate::proofs::Stepping::toward_one, crate::proofs::Stepping::attempt_given, crate::proofs::Stepping::attempt_units, canonical::proofs::Seen::len_items))]
+fn toward(x: f64, l: Items, t: Items, c: Items, n: usize, bases: Bases) -> Result<Quantity, Refusal>
+    ensures { (v : View) (fs ms cs : List Factorᵛ) → LendsIn v n bases.entry → Resolved v l fs → Resolved v t ms → Resolved v c cs → result ≡ handed (spec.toward (rules_by v n) x fs ms (spec.by_groups (rules_by v n) x cs)) }
 {
     if t.len == 0 {
-        return by_groups(UNITS, x, c, n, nums, dens);
+        return by_groups(x, c, n, bases);
     }
-    let y = convert::convert(x, l, t, n, nums, dens);
-    let Converted::Value(z) = y else {
-        return by_groups(convert::refusal_of(y), x, c, n, nums, dens);
-    };
-    let u = lists::opening::factors_of(t);
-    answers::with_mark(z, u, true)
+    match convert::convert(x, l, t, n, bases) {
+        Ok(z) => Ok(answers::with_mark(z, lists::opening::factors_of(t), true)),
+        Err(why) => match why {
+            Refusal::Units => by_groups(x, c, n, bases),
+            _ => Err(why),
+        },
+    }
 }
 
 // What follows the conversion to scalar.
-fn further(refusal: u32, x: f64, l: Items, n: usize, nums: &[i32], dens: &[u32]) -> Answer
-    ensures { (why : Refusal) (v : View) (fs : List Factorᵛ) → refusal ≡ number why → Lends v n nums.now dens.now → Resolved v l fs → result ≡ handed (go_on why (spec.further (rules_by v n) x fs)) }
+fn further(x: f64, l: Items, n: usize, bases: Bases) -> Result<Quantity, Refusal>
+    ensures { (v : View) (fs : List Factorᵛ) → LendsIn v n bases.entry → Resolved v l fs → result ≡ handed (spec.further (rules_by v n) x fs) }
 {
-    if refusal != UNITS {
-        return answers::refused(refusal);
-    }
-    let f = form::canonical(l);
-    if f.refusal != 0 {
-        return answers::refused(f.refusal);
-    }
-    let c = f.list;
+    let c = form::canonical(l)?;
     if c.len < 2 {
-        return by_groups(UNITS, x, c, n, nums, dens);
+        return by_groups(x, c, n, bases);
     }
-    let b = bases::base_of(c, n, nums, dens);
-    if b.refusal != 0 {
-        return answers::refused(b.refusal);
-    }
-    let e = b.at;
-    let s = single::first_multiple(c, e, n, nums, dens);
-    if s.refusal != 0 {
-        return answers::refused(s.refusal);
-    }
-    let t = s.list;
-    toward(x, l, t, c, n, nums, dens)
+    let e = bases::base_of(c, n, bases)?;
+    let t = single::first_multiple(c, e, n, bases)?;
+    toward(x, l, t, c, n, bases)
 }
 
 // ---- first step
 
 // x of the list l, where the mark permits simplifying and there are n base rows.
-pub fn simplified(x: f64, l: Items, n: usize, nums: &[i32], dens: &[u32]) -> Answer
-    ensures { (v : View) (fs : List Factorᵛ) → Lends v n nums.now dens.now → Resolved v l fs → result ≡ handed (spec.simplify (rules_by v n) x fs) }
+#[tactic(auto, unfolding(crate::specs::Steps::simplify), using(crate::proofs::Stepping::attempt_given, crate::proofs::Stepping::attempt_units, tables::proofs::Resolved::none_resolved))]
+pub fn simplified(x: f64, l: Items, n: usize, bases: Bases) -> Result<Quantity, Refusal>
+    ensures { (v : View) (fs : List Factorᵛ) → LendsIn v n bases.entry → Resolved v l fs → result ≡ handed (spec.simplify (rules_by v n) x fs) }
 {
     let scalar = tables::no_items();
-    let y = convert::convert(x, l, scalar, n, nums, dens);
-    let Converted::Value(z) = y else {
-        return further(convert::refusal_of(y), x, l, n, nums, dens);
-    };
-    let u = units::lists::empty();
-    answers::with_mark(z, u, true)
+    match convert::convert(x, l, scalar, n, bases) {
+        Ok(z) => Ok(answers::with_mark(z, units::lists::empty(), true)),
+        Err(why) => match why {
+            Refusal::Units => further(x, l, n, bases),
+            _ => Err(why),
+        },
+    }
 }

@@ -1,5 +1,5 @@
 -- The k-th argument in bytes that may be cut short anywhere: the arguments before it are passed one by one, and what ends early is what is there.
-use mathlib.Core.Path.{◌≡◌, refl, sym, ap, ◌∙◌, subst}
+use mathlib.Core.Path.{◌≡◌, refl, sym, ap, ◌∙◌}
 use mathlib.Core.List.{List, []}
 use Prim.Native.Nat.{ℕ, zero, suc, ◌+◌, ◌-◌, ◌≤◌, ◌<◌}
 use native.Mathlib.Nat.{add-zero, add_assoc}
@@ -7,10 +7,7 @@ use native.Mathlib.Omega.{arith}
 use lib.ListN.{length, take, drop, length-drop, drop_of_length-le}
 use lib.Seq.{take-nil, take_all, drop-drop, get_or-drop}
 use Rattle.wire.specs.Bytes.{le}
-use Rattle.replies.specs.Held.{Replied}
-use Rattle.replies.specs.declared.Reply.{Reply}
-use Rattle.stream.specs.Calls.{call_of}
-use Rattle.stream.specs.Stream.{part, answer_to}
+use Rattle.stream.specs.Stream.{part}
 
 -- a number behind dropped bytes
 pub le-drop : (w i : ℕ) (s : List ℕ) (j : ℕ) → le w (drop i s) j ≡ le w s (i + j)
@@ -64,11 +61,3 @@ module _ (s : List ℕ) (n k i : ℕ) (inv : part n s ≡ part k (drop i s)) whe
     part-next e =
         let p : k ≡ suc (k - 1) = omega arith in
         rw h.after (inv ∙ ap (λ j. part j (drop i s)) p ∙ part-after s (k - 1) i)
-
--- ---- the call with the three arguments
-pub replied_parts : (code : ℕ) (s room end a b c : List ℕ) (r : Reply) → a ≡ part 0 s → b ≡ part 1 s → c ≡ part 2 s
-    → Replied room ((call_of code).answer a b c) r end → Replied room (answer_to code s) r end
-unfolding answer_to
-replied_parts code s room end a b c r p q t h =
-    let e : (call_of code).answer a b c ≡ answer_to code s = rw (p, q, t) in
-    subst (λ o. Replied room o r end) e h

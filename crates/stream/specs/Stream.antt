@@ -1,24 +1,27 @@
 -- The stream of requests and answers (the byte form, "The stream of `calls`").
 use Rattle.std.specs.Prelude.{◌≡◌, ◌&&◌, ◌||◌, List, [], ◌++◌, ℕ, zero, suc, ◌+◌, ◌-◌, ◌≤◌, ◌<◌, eqb, ltb, length, take, drop, replicate}
-use Rattle.exponents.specs.Outcome.{Outcome, given, refused, number}
+use Rattle.exponents.specs.Outcome.{Outcome, Ok, Err, number}
 use Rattle.exponents.specs.Words.{pick}
 use Rattle.wire.specs.Bytes.{le, bytes_of}
 use Rattle.replies.specs.Replies.{sent}
 use Rattle.stream.specs.Calls.{call_of}
 use Rattle.stream.specs.declared.Fed.{Fed}
 use Rattle.stream.specs.declared.Frame.{Frame}
+use Rattle.stream.specs.declared.Frame.TheVariants.{Whole, Short, Bad}
 
 -- ---- a request: its code, then each argument's length and bytes
 
--- how a request lies: all of it is here, its arguments end at a place; or more is needed; or it ends the stream
-abbrev pub whole : ℕ → Frame
-whole to = record { kind = 0; to = to }
+-- all of a request is here
+abbrev pub IsWhole : Frame → Type 0
+IsWhole (Whole to) = Unit {0}
+IsWhole Short = ⊥
+IsWhole Bad = ⊥
 
-abbrev pub short : Frame
-short = record { kind = 1; to = 0 }
-
-abbrev pub bad : Frame
-bad = record { kind = 2; to = 0 }
+-- where its arguments end, 0 where not all of it is here
+abbrev pub end_of : Frame → ℕ
+end_of (Whole to) = to
+end_of Short = 0
+end_of Bad = 0
 
 -- the most bytes that the k-th argument of a call may have, counted from 0: 262,144 for Knots, behind the table in the calls 28 and 29 (02, order 4), and 65,536 for every other one
 unfoldable pub most : ℕ → ℕ → ℕ
@@ -26,16 +29,16 @@ most code k = pick ((eqb code 28 || eqb code 29) && eqb k 1) 262144 65536
 
 -- so many arguments of a call from place i on, the first of them its k-th: none is longer than it may be
 unfoldable pub arguments : ℕ → ℕ → ℕ → List ℕ → ℕ → Frame
-arguments code k zero s i = whole i
+arguments code k zero s i = Whole i
 arguments code k (suc n) s i =
-    pick (ltb (length s - i) 4) short
-    (pick (ltb (most code k) (le 4 s i)) bad
-    (pick (ltb (length s - (i + 4)) (le 4 s i)) short
+    pick (ltb (length s - i) 4) Short
+    (pick (ltb (most code k) (le 4 s i)) Bad
+    (pick (ltb (length s - (i + 4)) (le 4 s i)) Short
     (arguments code (k + 1) n s (i + 4 + le 4 s i))))
 
 -- the request whose code stands at place i: an unknown code, which has no arguments, ends the stream
 unfoldable pub framed : ℕ → List ℕ → ℕ → Frame
-framed code s i = pick (eqb (call_of code).arity 0) bad (arguments code 0 (call_of code).arity s i)
+framed code s i = pick (eqb (call_of code).arity 0) Bad (arguments code 0 (call_of code).arity s i)
 
 -- the k-th argument in the bytes behind a code
 unfoldable pub part : ℕ → List ℕ → List ℕ
@@ -60,8 +63,8 @@ unfoldable pub answered : ℕ → List ℕ → Outcome (List ℕ)
 answered code s = sent lent (answer_to code s)
 
 unfoldable pub answer_bytes : Outcome (List ℕ) → List ℕ
-answer_bytes (given bs) = bytes_of 4 0 ++ (bytes_of 4 (length bs) ++ bs)
-answer_bytes (refused r) = bytes_of 4 (number r) ++ bytes_of 4 0
+answer_bytes (Ok bs) = bytes_of 4 0 ++ (bytes_of 4 (length bs) ++ bs)
+answer_bytes (Err r) = bytes_of 4 (number r) ++ bytes_of 4 0
 
 -- the place for an answer's bytes
 abbrev pub place : ℕ
@@ -72,25 +75,25 @@ place = 8 + longest
 -- where the n-th request ends, from place i on
 unfoldable pub ends : ℕ → List ℕ → ℕ → ℕ
 ends zero s i = i
-ends (suc n) s i = ends n s (framed (le 4 s i) s (i + 4)).to
+ends (suc n) s i = ends n s (end_of (framed (le 4 s i) s (i + 4)))
 
 -- the bytes behind the code of the request at place i
 unfoldable pub behind : List ℕ → ℕ → List ℕ
-behind s i = take ((framed (le 4 s i) s (i + 4)).to - (i + 4)) (drop (i + 4) s)
+behind s i = take (end_of (framed (le 4 s i) s (i + 4)) - (i + 4)) (drop (i + 4) s)
 
 -- the answers to n requests from place i on, one behind the other
 unfoldable pub answers : ℕ → List ℕ → ℕ → List ℕ
 answers zero s i = []
-answers (suc n) s i = answer_bytes (answered (le 4 s i) (behind s i)) ++ answers n s (framed (le 4 s i) s (i + 4)).to
+answers (suc n) s i = answer_bytes (answered (le 4 s i) (behind s i)) ++ answers n s (end_of (framed (le 4 s i) s (i + 4)))
 
 -- how the next request lies, where fewer than 4 bytes are short of one
-unfoldable pub next : List ℕ → ℕ → ℕ
-next s i = pick (ltb (length s - i) 4) short.kind (framed (le 4 s i) s (i + 4)).kind
+unfoldable pub next : List ℕ → ℕ → Frame
+next s i = pick (ltb (length s - i) 4) Short (framed (le 4 s i) s (i + 4))
 
 -- what is told of the requests s once some are answered into a room, and what the room holds at the end: one result only (proofs/Feeding)
 pub record Feeds (s room : List ℕ) (r : Fed) (end : List ℕ) : Type 0 where
   -- each that is answered was whole
-  pub each : (k : ℕ) → k < r.count → next s (ends k s 0) ≡ (whole 0).kind
+  pub each : (k : ℕ) → k < r.count → IsWhole (next s (ends k s 0))
   -- and had room for any answer, behind the answers before it
   pub roomy : (k : ℕ) → k < r.count → length (answers k s 0) + place ≤ length room
   pub used : r.used ≡ ends r.count s 0
@@ -100,4 +103,4 @@ pub record Feeds (s room : List ℕ) (r : Fed) (end : List ℕ) : Type 0 where
   pub held : end ≡ answers r.count s 0 ++ drop r.wrote room
   pub lies : r.next ≡ next s r.used
   -- a whole one is left only for want of room
-  pub full : r.next ≡ (whole 0).kind → length room < r.wrote + place
+  pub full : IsWhole r.next → length room < r.wrote + place

@@ -10,19 +10,13 @@ ghost use Rattle.stream.specs.Stream as spec;
 use replies::Reply;
 use wire::numbers::{read_u32, write_u32};
 
-// How a request lies: `kind` is WHOLE, and its arguments end at `to`; or SHORT, where more is needed; or BAD, where it
-// ends the stream.
-#[derive(Clone, Copy, Drop)]
-pub struct Frame {
-    pub kind: u32,
-    pub to: usize,
+// How a request lies: all of it is here, and its arguments end at a place; or more is needed; or it ends the stream.
+#[derive(Clone, Copy, Debug, PartialEq, Eq, Drop)]
+pub enum Frame {
+    Whole(usize),
+    Short,
+    Bad,
 }
-
-pub const WHOLE: u32 = 0;
-
-pub const SHORT: u32 = 1;
-
-pub const BAD: u32 = 2;
 
 // The longest answer, and the place for one with its two numbers.
 pub const LONGEST: usize = 22536;
@@ -42,12 +36,13 @@ pub struct Fed {
     pub count: usize,
     pub used: usize,
     pub wrote: usize,
-    pub next: u32,
+    pub next: Frame,
 }
 
 // ---- one request
 
 // How many arguments the call with this code has: 0 for no call's.
+#[tactic(auto, using(crate::proofs::Codes::of_lists, crate::proofs::Codes::of_values, crate::proofs::Codes::of_simplify, crate::proofs::Codes::of_added))]
 fn arity(code: u32) -> u32
     ensures { (result ≡ (call_of code).arity) × (result ≤ 3) }
 {
@@ -69,6 +64,7 @@ fn arity(code: u32) -> u32
 // The most bytes that the k-th argument of the call with this code may have, counted from 0: 262,144 for Knots, which
 // the calls 28 and 29 take behind the table, so that more than the 512 allowed, of 336 bytes each, get their refusal;
 // 65,536 for every other one, so that 129 rows and 33 candidates do.
+#[tactic(auto, unfolding(crate::specs::Stream::most))]
 fn most(code: u32, k: u32) -> usize
     ensures { result ≡ spec.most code k }
 {
@@ -79,42 +75,32 @@ fn most(code: u32, k: u32) -> usize
     }
 }
 
-fn cut(kind: u32) -> Frame
-    ensures { (result.kind ≡ kind) × (result.to ≡ 0) }
-{
-    Frame { kind: kind, to: 0 }
-}
-
 // The frame of a request with this code, whose arguments start at `from`.
+#[tactic(auto, unfolding(crate::specs::Stream::framed), using(crate::proofs::Frames::arguments_none, crate::proofs::Frames::arguments_some))]
 pub fn framed(code: u32, s: &[u8], from: usize) -> Frame
     requires { from ≤ length s.now }
     ensures { result ≡ spec.framed code s.now from }
 {
     let n = arity(code);
     if n == 0 {
-        return cut(BAD);
+        return Frame::Bad;
     }
     let mut at = from;
-    let mut k: u32 = 0;
-    while k < n {
+    for k in 0..n {
         if s.len() - at < 4 {
-            return cut(SHORT);
+            return Frame::Short;
         }
         let m = read_u32(s, at) as usize;
         if most(code, k) < m {
-            return cut(BAD);
+            return Frame::Bad;
         }
         at += 4;
         if s.len() - at < m {
-            return cut(SHORT);
+            return Frame::Short;
         }
         at += m;
-        k += 1;
     }
-    Frame {
-        kind: WHOLE,
-        to: at,
-    }
+    Frame::Whole(at)
 }
 
 // The k-th argument in the bytes behind a code.
@@ -123,6 +109,7 @@ fn part_at(args: &[u8], k: u32) -> Part
 {
     let mut at: usize = 0;
     let mut left = k;
+    // Kept: a part says how long it is, so a step is no one place.
     while 4 <= args.len() - at {
         let m = read_u32(args, at) as usize;
         let from = at + 4;
@@ -140,6 +127,7 @@ fn part_at(args: &[u8], k: u32) -> Part
 }
 
 // The call with this code; its arguments are the first of these.
+#[tactic(auto, using(crate::proofs::Codes::of_lists, crate::proofs::Codes::of_values, crate::proofs::Codes::of_simplify, crate::proofs::Codes::of_added))]
 fn call(code: u32, a: &[u8], b: &[u8], c: &[u8], out: &mut [u8]) -> Reply
     ensures { Replied out.old ((call_of code).answer a.now b.now c.now) result out.new }
 {
@@ -156,6 +144,7 @@ fn call(code: u32, a: &[u8], b: &[u8], c: &[u8], out: &mut [u8]) -> Reply
 }
 
 // Answers the request with this code and these bytes behind it.
+#[tactic(auto, unfolding(crate::specs::Stream::answer_to))]
 pub fn answer(code: u32, args: &[u8], out: &mut [u8]) -> Reply
     ensures { Replied out.old (spec.answer_to code args.now) result out.new }
 {
@@ -181,40 +170,48 @@ fn one(code: u32, args: &[u8], out: &mut [u8], o: usize) -> usize
     let body = o + 8;
     let end = o + PLACE;
     let r = answer(code, args, &mut out[body..end]);
-    write_u32(out, o, r.refusal);
-    write_u32(out, o + 4, r.len as u32);
-    body + r.len
+    let len = r.unwrap_or(0);
+    write_u32(out, o, replies::number_of(r));
+    write_u32(out, o + 4, len as u32);
+    body + len
+}
+
+// How the request whose code stands at this place lies.
+#[tactic(auto, unfolding(crate::specs::Stream::next))]
+fn next_at(s: &[u8], at: usize) -> Frame
+    requires { at ≤ length s.now }
+    ensures { result ≡ spec.next s.now at }
+{
+    if s.len() - at < 4 {
+        return Frame::Short;
+    }
+    framed(read_u32(s, at), s, at + 4)
 }
 
 // Answers the requests at the start of inp, one behind the other, until one is not whole or out has no room for one
 // more answer.
+#[tactic(auto, using(crate::proofs::Frames::whole_inside, crate::proofs::Answering::all_answered))]
 pub fn feed(inp: &[u8], out: &mut [u8]) -> Fed
     ensures { spec.Feeds inp.now out.old result out.new }
 {
     let mut at: usize = 0;
     let mut o: usize = 0;
     let mut n: usize = 0;
-    while 4 <= inp.len() - at {
-        let code = read_u32(inp, at);
-        let from = at + 4;
-        let f = framed(code, inp, from);
-        if (f.kind != WHOLE) | (out.len() - o < PLACE) {
-            return Fed {
-                count: n,
-                used: at,
-                wrote: o,
-                next: f.kind,
-            };
+    let mut next = next_at(inp, at);
+    while let Frame::Whole(to) = next {
+        if out.len() - o < PLACE {
+            break;
         }
-        let to = f.to;
-        o = one(code, &inp[from..to], out, o);
+        let code = read_u32(inp, at);
+        o = one(code, &inp[at + 4..to], out, o);
         at = to;
         n += 1;
+        next = next_at(inp, at);
     }
     Fed {
         count: n,
         used: at,
         wrote: o,
-        next: SHORT,
+        next,
     }
 }

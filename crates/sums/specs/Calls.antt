@@ -2,7 +2,7 @@
 use Rattle.std.specs.Prelude.{Bool, true, false, List, length}
 use Rattle.std.specs.Float.Ieee.{neg}
 use Rattle.exponents.specs.Words.{pick}
-use Rattle.exponents.specs.Outcome.{Outcome, given, bind}
+use Rattle.exponents.specs.Outcome.{Outcome, Ok, bind}
 use Rattle.floats.specs.Values.{is_zero}
 use Rattle.units.specs.declared.Factor.{Factor}
 use Rattle.units.specs.declared.Quantity.{Quantity}
@@ -18,8 +18,8 @@ module _ (t : Rows) where
   unfoldable pub summed : Bool → (List Factor → Quantity) → Quantity → Quantity → Outcome Quantity
   summed minus lead q p =
       bind (table t) (λ ks. bind (both (length ks) q.unit p.unit) (λ l.
-      pick (is_zero q.value) (given (lead l.1))
-      (pick (is_zero p.value) (given (made q.mark q.value l.0))
+      pick (is_zero q.value) (Ok (lead l.1))
+      (pick (is_zero p.value) (Ok (made q.mark q.value l.0))
       (nonzero_sum (rules_in t ks) minus q.value p.value l.0 l.1))))
 
   -- the other, mark kept

@@ -3,7 +3,7 @@ use Rattle.std.specs.Prelude.{Bool, true, false, List, Float}
 use Rattle.std.specs.Float.{binary64}
 use Rattle.std.specs.Float.Ieee.{add, sub}
 use Rattle.exponents.specs.Words.{pick}
-use Rattle.exponents.specs.Outcome.{Outcome, given, apply, bind}
+use Rattle.exponents.specs.Outcome.{Outcome, Ok, apply, bind}
 use Rattle.units.specs.declared.Factor.{Factor}
 use Rattle.units.specs.declared.Quantity.{Quantity}
 use Rattle.tables.specs.Rules.{Rules}
@@ -28,5 +28,5 @@ module _ (R : Rules Float) where
   unfoldable pub nonzero_sum : Bool → Float → Float → List Factor → List Factor → Outcome Quantity
   nonzero_sum minus x y fs gs =
       bind (lists.equal R.order fs gs) (λ same.
-      pick same (given (fresh (combined minus x y) fs))
+      pick same (Ok (fresh (combined minus x y) fs))
       (bind (smaller_unit R fs gs) (λ first. together minus x y fs gs (pick first fs gs))))

@@ -9,7 +9,7 @@ use lib.Dec.{leb, eqb}
 use lib.Ieee.{binary64, of_bits}
 use lib.ListN.{length, length-append, length-replicate}
 use Rattle.exponents.specs.Words.{pick, All}
-use Rattle.exponents.specs.Outcome.{Outcome, given, refused, apply, bind}
+use Rattle.exponents.specs.Outcome.{Outcome, Ok, Err, apply, bind}
 use Rattle.units.specs.declared.Factor.{Factor}
 use Rattle.units.specs.declared.Row.{Row}
 use Rattle.units.specs.declared.Rows.{Rows}
@@ -37,19 +37,19 @@ use Rattle.tablefiles.proofs.Salvage.{least-left, least_right}
 
 pub record Read (places : ℕ) (s : List ℕ) (rs : List Row) : Type 0 where
   pub known : List Facts
-  pub admitted : table (lent_rows_lem rs) ≡ given known
+  pub admitted : table (lent_rows_lem rs) ≡ Ok known
   pub left : List ℕ
   pub formed : table? places s ≡ taken rs left
 
-pub read_told : (places : ℕ) (s : List ℕ) (rs : List Row) → read_table places s ≡ given rs → Read places s rs
+pub read_told : (places : ℕ) (s : List ℕ) (rs : List Row) → read_table places s ≡ Ok rs → Read places s rs
 unfolding read_table bind
 read_told places s rs e = go (table? places s) refl e
   where
-    last : (l : List Row) (t : List ℕ) → table? places s ≡ taken l t → (o : Outcome (List Facts)) → table (lent_rows_lem l) ≡ o → apply (λ ks. l) o ≡ given rs → Read places s rs
-    last l t p (given ks) q e = let x : l ≡ rs = cc in subst (Read places s) x (record { known = ks; admitted = q; left = t; formed = p })
-    last l t p (refused r) q e = absurd (let z : ◌≡◌ {A = ℕ} 0 1 = cc in omega arith)
+    last : (l : List Row) (t : List ℕ) → table? places s ≡ taken l t → (o : Outcome (List Facts)) → table (lent_rows_lem l) ≡ o → apply (λ ks. l) o ≡ Ok rs → Read places s rs
+    last l t p (Ok ks) q e = let x : l ≡ rs = cc in subst (Read places s) x (record { known = ks; admitted = q; left = t; formed = p })
+    last l t p (Err r) q e = absurd (let z : ◌≡◌ {A = ℕ} 0 1 = cc in omega arith)
 
-    go : (o : Taken (List Row)) → table? places s ≡ o → bind (formed o) (λ l. apply (λ ks. l) (table (lent_rows_lem l))) ≡ given rs → Read places s rs
+    go : (o : Taken (List Row)) → table? places s ≡ o → bind (formed o) (λ l. apply (λ ks. l) (table (lent_rows_lem l))) ≡ Ok rs → Read places s rs
     go nothing p e = absurd (let z : ◌≡◌ {A = ℕ} 0 1 = cc in omega arith)
     go (taken l t) p e = last l t p (table (lent_rows_lem l)) refl e
 
@@ -91,7 +91,7 @@ counted places s rs t e = go (parted (number? s) _ rs t e)
 
 -- ---- how many
 
-pub read_few : (places : ℕ) (s : List ℕ) (rs : List Row) → read_table places s ≡ given rs → (length rs ≤ 128) × (length rs ≤ places)
+pub read_few : (places : ℕ) (s : List ℕ) (rs : List Row) → read_table places s ≡ Ok rs → (length rs ≤ 128) × (length rs ≤ places)
 read_few places s rs e =
     let r = read_told places s rs e in
     let c = counted places s rs r.left r.formed in
@@ -153,7 +153,7 @@ front-each P h (suc n) s = go (front-each P h n) (row? s) refl
     go i nothing e = tt
     go i (taken r t) e = (h s r t e, i t)
 
-pub read_full : (places : ℕ) (s : List ℕ) (rs : List Row) → read_table places s ≡ given rs → All (λ r. length r.def ≡ 8) rs
+pub read_full : (places : ℕ) (s : List ℕ) (rs : List Row) → read_table places s ≡ Ok rs → All (λ r. length r.def ≡ 8) rs
 read_full places s rs e =
     let r = read_told places s rs e in
     let c = counted places s rs r.left r.formed in
@@ -168,12 +168,12 @@ kept_full places s = go (number? s)
     go (taken n t) = front-each (λ r. length r.def ≡ 8) row_full _ t
 
 -- ---- no file is empty
-pub file_some : (t : Rows) (f : List ℕ) → write_table t ≡ given f → 0 < length f
+pub file_some : (t : Rows) (f : List ℕ) → write_table t ≡ Ok f → 0 < length f
 unfolding write_table table_file
 file_some t f e = go (table t) e
   where
-    go : (o : Outcome (List Facts)) → apply (λ ks. number_bytes (length (rows_of t)) ++ run_bytes row_file (rows_of t)) o ≡ given f → 0 < length f
-    go (given ks) e =
+    go : (o : Outcome (List Facts)) → apply (λ ks. number_bytes (length (rows_of t)) ++ run_bytes row_file (rows_of t)) o ≡ Ok f → 0 < length f
+    go (Ok ks) e =
         let x : number_bytes (length (rows_of t)) ++ run_bytes row_file (rows_of t) ≡ f = cc in
         omega (arith, ap length x, length-append (number_bytes (length (rows_of t))) (run_bytes row_file (rows_of t)), number-some (length (rows_of t)))
-    go (refused r) e = absurd (let z : ◌≡◌ {A = ℕ} 0 1 = cc in omega arith)
+    go (Err r) e = absurd (let z : ◌≡◌ {A = ℕ} 0 1 = cc in omega arith)

@@ -1,7 +1,7 @@
 -- The calls on table files (02, order 1): a table's file, the rows of a file, and what can be kept of a damaged one.
 use Rattle.std.specs.Prelude.{List, [], ℕ, ◌-◌, leb, length}
 use Rattle.exponents.specs.Words.{pick}
-use Rattle.exponents.specs.Outcome.{FORMAT, number, Outcome, given, refused, apply, bind}
+use Rattle.exponents.specs.Outcome.{FORMAT, Outcome, Ok, Err, apply, bind}
 use Rattle.units.specs.declared.Row.{Row}
 use Rattle.units.specs.declared.Rows.{Rows}
 use Rattle.lent.specs.Lent.{lent_rows_lem}
@@ -10,7 +10,6 @@ use Rattle.beginnings.specs.Beginnings.{admitting, before}
 use Rattle.groups.specs.Taken.{Taken, nothing, taken}
 use Rattle.groups.specs.Numbers.{number?}
 use Rattle.files.specs.Records.{table_file, table?, front}
-use Rattle.tablefiles.specs.declared.Told.{Told}
 use Rattle.tablefiles.specs.declared.Kept.{Kept}
 
 -- the file of an admitted table, or the table's refusal
@@ -19,17 +18,16 @@ write_table t = apply (λ ks. table_file (rows_of t)) (table t)
 
 -- FORMAT for a file that breaks the rules of a file anywhere, or has more rows than places
 abbrev pub formed : Taken (List Row) → Outcome (List Row)
-formed nothing = refused FORMAT
-formed (taken rs s) = given rs
+formed nothing = Err FORMAT
+formed (taken rs s) = Ok rs
 
 -- FORMAT before the table's own refusals; else the rows
 unfoldable pub read_table : ℕ → List ℕ → Outcome (List Row)
 read_table places s = bind (formed (table? places s)) (λ rs. apply (λ ks. rs) (table (lent_rows_lem rs)))
 
--- 0 and how many rows, or the refusal's number
-abbrev pub told_of : Outcome (List Row) → Told
-told_of (given rs) = record { refusal = 0; len = length rs }
-told_of (refused r) = record { refusal = number r; len = 0 }
+-- how many rows, or the refusal
+abbrev pub told_of : Outcome (List Row) → Outcome ℕ
+told_of = apply length
 
 -- ---- salvage
 

@@ -5,27 +5,12 @@
 ghost use Rattle.std.specs.Prelude.{◌≡◌, []};
 ghost use Rattle.lent.specs.Lent.{lent_rows_lem};
 ghost use Rattle.replies.specs.Held.{Replied};
-ghost use Rattle.tablefiles.specs.Calls.{write_table, read_table, salvage, least};
+ghost use Rattle.tablefiles.specs.Calls.{write_table, read_table, salvage};
 ghost use Rattle.tablefiles.specs.Held.{read_of, salvaged_of};
 
-use exponents::refusals::{FORMAT, ROOM};
-use groups::Number;
+use exponents::refusals::Refusal;
 use replies::Reply;
 use units::Rows;
-
-// 0 and how many rows, or the refusal's number and 0.
-#[derive(Clone, Copy, Drop)]
-pub struct Told {
-    pub refusal: u32,
-    pub len: usize,
-}
-
-// The rows of a file, none where it is refused.
-#[derive(Clone, Copy, Drop)]
-pub struct Read {
-    pub rows: Rows,
-    pub told: Told,
-}
 
 // How many rows are kept, and the byte where the first row not kept begins, or where the rows end.
 #[derive(Clone, Copy, Drop)]
@@ -41,21 +26,30 @@ pub struct Salvaged {
 }
 
 // The table's file into lent room: the table's refusals, then ROOM, which writes no byte.
+#[tactic(auto, using(crate::proofs::Admissions::table_stops, crate::proofs::Admissions::table_keeps, crate::proofs::Admissions::few_rows, replies::proofs::Sent::too_short, replies::proofs::Sent::fits_in, replies::proofs::Sent::left_by), unfolding(crate::specs::Calls::write_table, replies::specs::Replies::sent, exponents::specs::Outcome::bind))]
 pub fn write_table(rows: Rows, out: &mut [u8]) -> Reply
     ensures { Replied out.old (write_table rows) result out.new }
 {
-    let t = lists::opening::admitted(rows);
-    if t.refusal != 0 {
-        return replies::refused(t.refusal);
-    }
+    lists::opening::admitted(rows)?;
     let n = filewrites::table_len(rows);
     if out.len() < n {
-        return replies::refused(ROOM);
+        return Err(Refusal::Room);
     }
     filewrites::write_table(out, rows);
-    replies::answered(n)
+    Ok(n)
 }
 
+// The rows of a file, where there are so many places for them: FORMAT, then the table's refusals.
+#[tactic(auto, using(crate::proofs::Admissions::table_stops, crate::proofs::Admissions::table_keeps), unfolding(crate::specs::Calls::read_table, exponents::specs::Outcome::bind))]
+pub fn read_table(file: &[u8], places: usize) -> Result<Rows, Refusal>
+    ensures { result ≡ read_of (read_table places file.now) }
+{
+    let rows = filereads::read_table(file, places).ok_or(Refusal::Format)?;
+    lists::opening::admitted(rows)?;
+    Ok(rows)
+}
+
+#[tactic(auto, unfolding(lent::specs::Lent::lent_rows_lem, lent::specs::Lent::over))]
 fn no_rows() -> Rows
     ensures { result ≡ lent_rows_lem [] }
 {
@@ -64,43 +58,6 @@ fn no_rows() -> Rows
         at: [none; 128],
         len: 0,
     }
-}
-
-fn unread(refusal: u32) -> Read
-    ensures { result ≡ record { rows = lent_rows_lem []; told = record { refusal = refusal; len = 0 } } }
-{
-    let rows = no_rows();
-    let told = Told {
-        refusal: refusal,
-        len: 0,
-    };
-    Read { rows, told }
-}
-
-// The rows of a file, where there are so many places for them: FORMAT, then the table's refusals.
-pub fn read_table(file: &[u8], places: usize) -> Read
-    ensures { result ≡ read_of (read_table places file.now) }
-{
-    let f = filereads::read_table(file, places);
-    if !f.whole {
-        return unread(FORMAT);
-    }
-    let rows = f.rows;
-    let t = lists::opening::admitted(rows);
-    if t.refusal != 0 {
-        return unread(t.refusal);
-    }
-    let told = Told {
-        refusal: 0,
-        len: rows.len,
-    };
-    Read { rows, told }
-}
-
-pub fn least(a: usize, b: usize) -> usize
-    ensures { result ≡ least a b }
-{
-    if a <= b { a } else { b }
 }
 
 fn handed(rows: Rows, byte: usize) -> Salvaged
@@ -117,20 +74,17 @@ fn handed(rows: Rows, byte: usize) -> Salvaged
 pub fn salvage_table(file: &[u8], places: usize) -> Salvaged
     ensures { result ≡ salvaged_of (salvage places file.now) }
 {
-    let a = groups::read_number(file, 0);
-    let Number::Found(n, at) = a else {
-        let none = no_rows();
-        return handed(none, 0);
+    let Some((n, at)) = groups::read_number(file, 0) else {
+        return handed(no_rows(), 0);
     };
-    let most = least(n as usize, least(places, 128));
+    let most = (n as usize).min(places.min(128));
     let f = filereads::read_rows(file, at, most);
-    let rows = f.rows;
-    let t = lists::opening::admitted(rows);
-    if t.len == rows.len {
-        return handed(rows, f.next);
+    match lists::opening::admitted(f.rows) {
+        Ok(_) => handed(f.rows, f.next),
+        Err(fault) => {
+            // a whole row that isn't admitted: the rows before it, read again for the place where it begins
+            let g = filereads::read_rows(file, at, fault.len);
+            handed(g.rows, g.next)
+        }
     }
-    // a whole row that isn't admitted: the rows before it, read again for the place where it begins
-    let g = filereads::read_rows(file, at, t.len);
-    let kept = g.rows;
-    handed(kept, g.next)
 }

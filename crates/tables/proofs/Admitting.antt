@@ -8,7 +8,8 @@ use lib.IntN.{ℤ}
 use lib.Ieee.{Float}
 use lib.ListN.{length, drop, length-append, drop_of_length-le}
 use borrow.Author.Tests.{lt-ltb, le-ltb}
-use Rattle.exponents.specs.Outcome.{TABLE}
+use Rattle.std.specs.Prelude.{Result}
+use Rattle.exponents.specs.Outcome.{Refusal, TABLE, Outcome, Ok, Err}
 use Rattle.exponents.proofs.Holds.{take_out}
 use Rattle.exponents.proofs.Numbers.{answers, refuses}
 use Rattle.units.specs.declared.Kind.{Kind}
@@ -18,6 +19,7 @@ use Rattle.units.specs.declared.Rows.{Rows}
 use Rattle.tables.specs.declared.Slot.{Slot}
 use Rattle.tables.specs.declared.Slots.{Slots}
 use Rattle.tables.specs.declared.Admitted.{Admitted}
+use Rattle.tables.specs.declared.Rejected.{Rejected}
 use Rattle.exponents.specs.Words.{pick}
 use Rattle.tables.specs.Rows.{Facts, slots, is_base, count, row_facts, Admission, admitted, stopped, admit_on, admit_from, rows_of, admit}
 use Rattle.tables.specs.Held.{counted, pack_slots, Blank, Paged, Pages, RowIn, admitted_of}
@@ -66,7 +68,7 @@ few_more (Derived f) n h g = h
 
 -- ---- what a call answers of its arrays
 -- an admission's value, and the five arrays after it
-abbrev pub Tells : List Slot → Admission → Admitted → List ℤ → List ℕ → List Float → List ℕ → List Bool → Type 0
+abbrev pub Tells : List Slot → Admission → Result Admitted Rejected → List ℤ → List ℕ → List Float → List ℕ → List Bool → Type 0
 Tells ss a r nums dens scales ranks based = (r ≡ admitted_of ss a) × Pages a nums dens scales ranks based
 
 -- the admission of a table of at most 128 rows is that of its rows
@@ -82,32 +84,32 @@ over rows h = rw (lt-ltb 128 rows.len h)
 module _ (ss : List Slot) (rs : List Row) (bases i : ℕ) (nums : List ℤ) (dens : List ℕ) (scales : List Float) (ranks : List ℕ) (based : List Bool)
     (a : Admitting ss rs bases i nums dens scales ranks based) where
   -- all rows are in
-  pub admitting_end : length rs ≤ i → (o : Slots) → o ≡ pack_slots ss → Tells ss (admit_from ss [] rs) (record { slots = o; len = i; refusal = 0 }) nums dens scales ranks based
+  pub admitting_end : length rs ≤ i → (o : Slots) → o ≡ pack_slots ss → Tells ss (admit_from ss [] rs) (Ok (record { slots = o; len = i })) nums dens scales ranks based
   unfolding admit_from
   admitting_end h o e =
       let done : admit_from ss [] rs ≡ admitted a.ks = sym a.left ∙ ap (admit_from ss a.ks) (drop_of_length-le rs {i = i} h) in
-      (ap₂ (λ (s : Slots) (n : ℕ). record { slots = s; len = n; refusal = 0 }) e a.at ∙ sym (ap (admitted_of ss) done), subst (λ x. Pages x nums dens scales ranks based) (sym done) a.paged)
+      (ap₂ (λ (s : Slots) (n : ℕ). Ok (record { slots = s; len = n })) e a.at ∙ sym (ap (admitted_of ss) done), subst (λ x. Pages x nums dens scales ranks based) (sym done) a.paged)
 
   -- row i, what the code has answered of it, and the arrays after it
-  module _ (r : Row) (here : drop i rs ≡ r ∷ drop (i + 1) rs) (n : ℕ) (nums' : List ℤ) (dens' : List ℕ) (scales' : List Float) (ranks' : List ℕ) (based' : List Bool)
-      (row_in : RowIn ss a.ks r n nums' dens' scales' ranks' based') where
+  module _ (r : Row) (here : drop i rs ≡ r ∷ drop (i + 1) rs) (o : Outcome (Unit {0})) (nums' : List ℤ) (dens' : List ℕ) (scales' : List Float) (ranks' : List ℕ) (based' : List Bool)
+      (row_in : RowIn ss a.ks r o nums' dens' scales' ranks' based') where
     next : admit_from ss [] rs ≡ admit_on (row_facts ss a.ks r) a.ks (λ k. admit_from ss (a.ks ++ (k ∷ [])) (drop (i + 1) rs))
     unfolding admit_from
     next = sym a.left ∙ ap (admit_from ss a.ks) here
 
     -- the row's refusal is the table's
-    pub admitting_off : (n ≡ 0 → ⊥) → Tells ss (admit_from ss [] rs) (record { slots = pack_slots []; len = i; refusal = n }) nums' dens' scales' ranks' based'
-    admitting_off h =
-        let q = refuses (row_facts ss a.ks r) n row_in.0 h in
-        let is : admit_from ss [] rs ≡ stopped q.why a.ks = next ∙ ap (λ o. admit_on o a.ks (λ k. admit_from ss (a.ks ++ (k ∷ [])) (drop (i + 1) rs))) q.is in (
-          ap₂ (λ (m n : ℕ). record { slots = pack_slots []; len = m; refusal = n }) a.at (sym q.numbered) ∙ sym (ap (admitted_of ss) is),
+    pub admitting_off : (w : Refusal) → o ≡ Err w → Tells ss (admit_from ss [] rs) (Err (record { refusal = w; len = i })) nums' dens' scales' ranks' based'
+    admitting_off w h =
+        let q = refuses (row_facts ss a.ks r) w (sym h ∙ row_in.0) in
+        let is : admit_from ss [] rs ≡ stopped w a.ks = next ∙ ap (λ o. admit_on o a.ks (λ k. admit_from ss (a.ks ++ (k ∷ [])) (drop (i + 1) rs))) q in (
+          ap (λ (m : ℕ). Err (record { refusal = w; len = m })) a.at ∙ sym (ap (admitted_of ss) is),
           subst (λ x. Pages x nums' dens' scales' ranks' based') (sym is) tt,
         )
 
-    pub admitting_on : n ≡ 0 → (m : ℕ) → m ≡ counted r.kind bases → Admitting ss rs m (i + 1) nums' dens' scales' ranks' based'
+    pub admitting_on : (u : Unit {0}) → o ≡ Ok u → (m : ℕ) → m ≡ counted r.kind bases → Admitting ss rs m (i + 1) nums' dens' scales' ranks' based'
     unfolding admit_from
-    admitting_on z m e =
-        let g = answers (row_facts ss a.ks r) n row_in.0 z in
+    admitting_on u z m e =
+        let g = answers (row_facts ss a.ks r) u (sym z ∙ row_in.0) in
         let k = g.answer in
         let fact = take_out (filled.known ss a.ks r) g.is in
         record {

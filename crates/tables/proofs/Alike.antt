@@ -3,7 +3,7 @@ use mathlib.Core.Path.{◌≡◌, sym, ◌∙◌, ap}
 use mathlib.Core.List.{List, []}
 use Prim.Native.Nat.{ℕ, ◌<◌}
 use lib.ListN.{length, get_or}
-use Rattle.exponents.specs.Outcome.{given}
+use Rattle.exponents.specs.Outcome.{Ok}
 use Rattle.exponents.specs.Fractions.{mul}
 use Rattle.exponents.proofs.Exact.{Low}
 use Rattle.exponents.proofs.Holds.{take_out}
@@ -37,4 +37,4 @@ module _ (ss : List Slot) (rs : List Row) (ks : List Facts) (h : admit_from ss [
   alike i j p q e b =
       let same : (get_or ks i nobody).key ≡ (get_or ks j nobody).key = entries-one 0 _ _ (key-length i p ∙ sym (key-length j q)) e in
       proportional (get_or ks i nobody).exps (get_or ks j nobody).exps (get_or ks i nobody).key (low i p) (low j q)
-      (row_known ss rs ks h d i p).key ((row_known ss rs ks h d j q).key ∙ ap given (sym same)) b
+      (row_known ss rs ks h d i p).key ((row_known ss rs ks h d j q).key ∙ ap Ok (sym same)) b

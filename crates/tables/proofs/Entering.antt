@@ -10,10 +10,10 @@ use lib.Ieee.{Float}
 use lib.ListN.{length, take, set}
 use lib.Seq.{sets}
 use borrow.Author.Tests.{lt-ltb, not-false, ltb-true, ltb-false}
-use Rattle.exponents.specs.Outcome.{Refusal, TABLE, SHAPE, Outcome, given, refused, unless, refusal_of}
-use Rattle.exponents.proofs.Holds.{take_out}
+use Rattle.exponents.specs.Outcome.{Refusal, TABLE, SHAPE, Outcome, Ok, Err, unless, tested}
+use Rattle.exponents.proofs.Holds.{take_out, one_answer}
 use Rattle.exponents.proofs.InRange.{or_left, or_right}
-use Rattle.exponents.proofs.Numbers.{Refuses, refuses}
+use Rattle.exponents.proofs.Numbers.{clash, apply_refuses}
 use Rattle.units.specs.declared.Factor.{Factor}
 use Rattle.units.specs.declared.Kind.{Kind}
 use Rattle.units.specs.declared.Kind.TheVariants.{Base}
@@ -21,7 +21,6 @@ use Rattle.units.specs.declared.Row.{Row}
 use Rattle.units.specs.Lists.{some, factor_fault}
 use Rattle.tables.specs.declared.Slot.{Slot}
 use Rattle.tables.specs.declared.Known.{Known}
-use Rattle.tables.specs.declared.rows.Worked.{Worked}
 use Rattle.tables.specs.Rows.{Facts, def_of, count, kind_fault, table_fault, worked_out, row_facts}
 use Rattle.tables.specs.Held.{known_of, worked_of, tops, bottoms, Room, Ranked, Paged, RowIn}
 use Rattle.tables.proofs.Filled as filled
@@ -70,25 +69,25 @@ or_true true = refl
 or_true false = refl
 
 module _ (ss : List Slot) (ks : List Facts) (r : Row) where
-  pub early_fault : early ks r ≡ true → Refuses (row_facts ss ks r) 1
+  pub early_fault : early ks r ≡ true → row_facts ss ks r ≡ Err TABLE
   unfolding row_facts table_fault unless
-  early_fault h = record { why = TABLE; is = rw h; numbered = refl }
+  early_fault h = rw h
 
-  pub name_fault : names ks r ≡ true → Refuses (row_facts ss ks r) 1
+  pub name_fault : names ks r ≡ true → row_facts ss ks r ≡ Err TABLE
   unfolding row_facts table_fault unless
-  name_fault h = record { why = TABLE; is = rw (h, or_true); numbered = refl }
+  name_fault h = rw (h, or_true)
 
   module _ (e : early ks r ≡ false) (n : names ks r ≡ false) where
-    pub shape_fault : some factor_fault (def_of r) ≡ true → Refuses (row_facts ss ks r) 2
+    pub shape_fault : some factor_fault (def_of r) ≡ true → row_facts ss ks r ≡ Err SHAPE
     unfolding row_facts table_fault unless
-    shape_fault h = record { why = SHAPE; is = rw (e, n, h); numbered = refl }
+    shape_fault h = rw (e, n, h)
 
     pub sound_row : some factor_fault (def_of r) ≡ false → row_facts ss ks r ≡ worked_out ss ks r
     unfolding row_facts table_fault unless
     sound_row h = rw (e, n, h)
 
   -- a base row that is let in is at most the sixteenth
-  pub few : (k : Facts) → row_facts ss ks r ≡ given k → r.kind ≡ Base → count ks ≤ 15
+  pub few : (k : Facts) → row_facts ss ks r ≡ Ok k → r.kind ≡ Base → count ks ≤ 15
   unfolding kind_fault table_fault
   few k e b =
       let t : table_fault ks r ≡ false = (take_out (filled.known ss ks r) e).table in
@@ -97,35 +96,29 @@ module _ (ss : List Slot) (ks : List Facts) (r : Row) where
 
   -- ---- one row more, in the arrays
   module _ (nums : List ℤ) (dens : List ℕ) (scales : List Float) (ranks : List ℕ) (based : List Bool) where
-    clash : {k : Facts} {w : Refusal} → given k ≡ refused w → ⊥
-    clash e = let z : ◌≡◌ {A = ℕ} 0 1 = cc in omega arith
-
     -- after a refusal they tell nothing
-    pub row_refused : (n : ℕ) → Refuses (row_facts ss ks r) n → RowIn ss ks r n nums dens scales ranks based
-    row_refused n q = (sym q.numbered ∙ sym (ap refusal_of q.is), λ k e. absurd (clash (sym e ∙ q.is)))
+    pub row_refused : (w : Refusal) → row_facts ss ks r ≡ Err w → RowIn ss ks r (Err w) nums dens scales ranks based
+    row_refused w q = (sym (ap tested q), λ k e. absurd (clash (sym e ∙ q)))
 
-    module _ (w : Worked) (sound : row_facts ss ks r ≡ worked_out ss ks r) (is : w ≡ worked_of (worked_out ss ks r)) where
-      number_is : w.refusal ≡ refusal_of (row_facts ss ks r)
-      number_is = ap (λ (w : Worked). w.refusal) is ∙ go (worked_out ss ks r) ∙ sym (ap refusal_of sound)
-        where
-          go : (o : Outcome Facts) → (worked_of o).refusal ≡ refusal_of o
-          go (given k) = refl
-          go (refused r) = refl
+    module _ (sound : row_facts ss ks r ≡ worked_out ss ks r) where
+      pub work_refused : (w : Refusal) → Err w ≡ worked_of (worked_out ss ks r) → RowIn ss ks r (Err w) nums dens scales ranks based
+      work_refused w h = row_refused w (sound ∙ apply_refuses known_of (worked_out ss ks r) w (sym h))
 
-      pub work_refused : (w.refusal ≡ 0 → ⊥) → RowIn ss ks r w.refusal nums dens scales ranks based
-      work_refused h = row_refused w.refusal (refuses (row_facts ss ks r) w.refusal number_is h)
-
-      pub work_stored : (i : ℕ) → i ≡ length ks → i < 128 → length ss ≤ 16 → Room nums dens scales ranks based → Paged ks nums dens scales ranks based → w.refusal ≡ 0
-          → RowIn ss ks r 0 (sets nums (i * 16) (tops w.known.exps)) (sets dens (i * 16) (bottoms w.known.exps)) (set scales i w.known.scale) (set ranks i w.known.rank) (set based i w.known.base)
+      pub work_stored : (w : Known) → Ok w ≡ worked_of (worked_out ss ks r) → (i : ℕ) → i ≡ length ks → i < 128 → length ss ≤ 16 → Room nums dens scales ranks based → Paged ks nums dens scales ranks based
+          → RowIn ss ks r (Ok tt) (sets nums (i * 16) (tops w.exps)) (sets dens (i * 16) (bottoms w.exps)) (set scales i w.scale) (set ranks i w.rank) (set based i w.base)
       unfolding known_of
-      work_stored i at h s room p z = (sym z ∙ number_is, stored)
+      work_stored w is i at h s room p = (answered (worked_out ss ks r) is ∙ sym (ap tested sound), stored)
         where
-          stored : (k : Facts) → row_facts ss ks r ≡ given k
-              → Paged (ks ++ (k ∷ [])) (sets nums (i * 16) (tops w.known.exps)) (sets dens (i * 16) (bottoms w.known.exps)) (set scales i w.known.scale) (set ranks i w.known.rank) (set based i w.known.base)
+          answered : (o : Outcome Facts) → Ok w ≡ worked_of o → Ok tt ≡ tested o
+          answered (Ok k) e = refl
+          answered (Err r) e = absurd (clash e)
+
+          stored : (k : Facts) → row_facts ss ks r ≡ Ok k
+              → Paged (ks ++ (k ∷ [])) (sets nums (i * 16) (tops w.exps)) (sets dens (i * 16) (bottoms w.exps)) (set scales i w.scale) (set ranks i w.rank) (set based i w.base)
           stored k e =
               let fact = take_out (filled.known ss ks r) e in
               let long : length k.exps ≡ length ss = (take_out (row_sound r.kind ss ks r) fact.exps).sized in
-              let known : w.known ≡ known_of k = ap (λ (w : Worked). w.known) (is ∙ ap worked_of (sym sound ∙ e)) in
+              let known : w ≡ known_of k = one_answer (is ∙ ap worked_of (sym sound ∙ e)) in
               subst (λ (x : Known). Paged (ks ++ (k ∷ [])) (sets nums (i * 16) (tops x.exps)) (sets dens (i * 16) (bottoms x.exps)) (set scales i x.scale) (set ranks i x.rank) (set based i x.base)) (sym known)
               (subst (λ j. Paged (ks ++ (k ∷ [])) (sets nums (j * 16) (tops (known_of k).exps)) (sets dens (j * 16) (bottoms (known_of k).exps)) (set scales j k.scale) (set ranks j k.rank) (set based j k.base)) (sym at)
               (paged_more ks k nums dens scales ranks based room p (omega arith) (omega arith)))

@@ -10,7 +10,7 @@ use lib.Ieee as ieee
 use lib.ListN.{length, get_or, take}
 use lib.Seq.{length-take-le, get_or-take}
 use borrow.Author.Tests.{ltb-true, not-false}
-use Rattle.exponents.specs.Outcome.{TABLE, Outcome, given, refused, bind, each, apply}
+use Rattle.exponents.specs.Outcome.{TABLE, Outcome, Ok, Err, bind, each, apply}
 use Rattle.exponents.specs.Fractions.{nought, unit, add?, mul?, sum?}
 use Rattle.exponents.specs.declared.Exponent.{Exponent}
 use Rattle.exponents.proofs.Holds.{one_answer, Holds, held, take_out, holds_unless, holds_bind, holds_eq}
@@ -36,9 +36,9 @@ use Rattle.exponents.proofs.Each.{each_map}
 pub record Known (ss : List Slot) (js : List Facts) (r : Row) (k : Facts) : Type 0 where
   pub table : table_fault js r ≡ false
   pub shape : some factor_fault (def_of r) ≡ false
-  pub exps : row_exps r.kind ss js r ≡ given k.exps
-  pub key : key.key k.exps ≡ given k.key
-  pub scale : row_scale r.kind js r ≡ given k.scale
+  pub exps : row_exps r.kind ss js r ≡ Ok k.exps
+  pub key : key.key k.exps ≡ Ok k.key
+  pub scale : row_scale r.kind js r ≡ Ok k.scale
   pub rank : k.rank ≡ r.rank
   pub base : k.base ≡ is_base r.kind
 
@@ -63,7 +63,7 @@ pub record Filled (ss : List Slot) (js : List Facts) (rs : List Row) (ks : List 
   pub right : (d : Row) (i : ℕ) → i < length rs → Known ss (js ++ take i more) (get_or rs i d) (get_or more i nobody)
 
 module _ (ss : List Slot) where
-  step : (js : List Facts) (r : Row) (rs : List Row) (k : Facts) (ks : List Facts) → row_facts ss js r ≡ given k → Filled ss (js ++ (k ∷ [])) rs ks → Filled ss js (r ∷ rs) ks
+  step : (js : List Facts) (r : Row) (rs : List Row) (k : Facts) (ks : List Facts) → row_facts ss js r ≡ Ok k → Filled ss (js ++ (k ∷ [])) rs ks → Filled ss js (r ∷ rs) ks
   step js r rs k ks e h = record {
     more = k ∷ h.more;
     is = h.is ∙ append_assoc js (k ∷ []) h.more;
@@ -77,9 +77,9 @@ module _ (ss : List Slot) where
       right d (suc i) p = subst (λ l. Known ss l (get_or rs i d) (get_or h.more i nobody)) (append_assoc js (k ∷ []) (take i h.more)) (h.right d i (omega arith))
 
   pub admit_on_lem : (js : List Facts) (o : Outcome Facts) (next : Facts → Admission) (ks : List Facts) {P : Type 0} →
-      admit_on o js next ≡ admitted ks → ((k : Facts) → o ≡ given k → next k ≡ admitted ks → P) → P
-  admit_on_lem js (given k) next ks e f = f k refl e
-  admit_on_lem js (refused w) next ks e f = absurd (let z : ◌≡◌ {A = ℕ} 0 1 = cc in omega arith)
+      admit_on o js next ≡ admitted ks → ((k : Facts) → o ≡ Ok k → next k ≡ admitted ks → P) → P
+  admit_on_lem js (Ok k) next ks e f = f k refl e
+  admit_on_lem js (Err w) next ks e f = absurd (let z : ◌≡◌ {A = ℕ} 0 1 = cc in omega arith)
 
   pub filled : (js : List Facts) (rs : List Row) (ks : List Facts) → admit_from ss js rs ≡ admitted ks → Filled ss js rs ks
   unfolding admit_from
@@ -138,9 +138,6 @@ module _ (ss : List Slot) (rs : List Row) (ks : List Facts) (h : admit_from ss [
   pub table-length : length ks ≡ length rs
   table-length = ap length all.is ∙ all.sized
 
-  pub table_ranks : map (λ (k : Facts). k.rank) ks ≡ map (λ (r : Row). r.rank) rs
-  table_ranks = ap (map (λ (k : Facts). k.rank)) all.is ∙ all.ranks
-
   module _ (d : Row) (i : ℕ) (p : i < length rs) where
     -- each row is what it is over the rows before it
     pub row_known : Known ss (take i ks) (get_or rs i d) (get_or ks i nobody)
@@ -153,7 +150,7 @@ module _ (ss : List Slot) (rs : List Row) (ks : List Facts) (h : admit_from ss [
     names_lower = subst (λ n. some (unknown n) (def_of (get_or rs i d)) ≡ false) before (lower (take i ks) (get_or rs i d) row_known.table)
 
     -- a definition put in place of its unit: it has the row's base exponents
-    pub derived_exps : (f : Float) → (get_or rs i d).kind ≡ Derived f → base (bases (length ss) ks) (def_of (get_or rs i d)) ≡ given (get_or ks i nobody).exps
+    pub derived_exps : (f : Float) → (get_or rs i d).kind ≡ Derived f → base (bases (length ss) ks) (def_of (get_or rs i d)) ≡ Ok (get_or ks i nobody).exps
     unfolding row_exps
     derived_exps f e = sym (base_same ks i (length ss) (def_of (get_or rs i d)) names_lower) ∙ rw e at row_known.exps
 
@@ -163,7 +160,7 @@ module _ (ss : List Slot) (rs : List Row) (ks : List Facts) (h : admit_from ss [
     base_exps e = let p = rw e at row_known.exps in one_answer (sym p) ∙ ap (λ n. map (λ (s : Slot). pick (eqb s.row n) unit nought) ss) before
 
     -- a derived row's scale is its factor times its definition's, in the whole table too
-    pub row_scale_lem : row_scale (get_or rs i d).kind ks (get_or rs i d) ≡ given (get_or ks i nobody).scale
+    pub row_scale_lem : row_scale (get_or rs i d).kind ks (get_or rs i d) ≡ Ok (get_or ks i nobody).scale
     unfolding row_scale
     row_scale_lem = sym (go (get_or rs i d).kind) ∙ row_known.scale
       where

@@ -6,16 +6,13 @@ use Prim.Native.Nat.{ℕ, ◌+◌}
 use native.Mathlib.Omega.{arith}
 use lib.Dec.{eqb}
 use lib.Ieee.{Float}
-use Rattle.exponents.specs.Outcome.{Outcome, given, refused, apply, bind}
+use Rattle.exponents.specs.Outcome.{Outcome, Ok, apply, bind}
 use Rattle.exponents.specs.declared.Exponent.{Exponent}
 use Rattle.exponents.proofs.Following.{bind_same, bind_apply, apply_bind}
-use Rattle.exponents.proofs.Numbers.{Refuses}
 use Rattle.floats.specs.Power.{tally}
 use Rattle.floats.specs.declared.Tally.{Tally}
 use Rattle.units.specs.declared.Factor.{Factor}
-use Rattle.tables.specs.declared.scales.Tallied.TheVariants.{Value, Refused}
-use Rattle.tables.specs.Scale.{Numbers, counting, raise, raised_to, scale_from_lem}
-use Rattle.tables.specs.Held.{scaled_of, tallied_of, plain_of}
+use Rattle.tables.specs.Scale.{Numbers, doubles, counting, raise, raised_to, scale_from_lem}
 
 -- the number alone
 abbrev pub plain : Tally → Float
@@ -24,15 +21,6 @@ plain t = t.value
 -- k more
 abbrev pub more : ℕ → Tally → Tally
 more k t = tally t.value (k + t.count)
-
--- ---- what code has of one
-pub tally_given : (o : Outcome Tally) (t : Tally) → tallied_of o ≡ Value t → o ≡ given t
-tally_given (given w) t e = cc
-tally_given (refused r) t e = let z : ◌≡◌ {A = ℕ} 0 1 = cc in absurd (omega arith)
-
-pub tally_refuses : (o : Outcome Tally) (n : ℕ) → tallied_of o ≡ Refused n → Refuses o n
-tally_refuses (given w) n e = let z : ◌≡◌ {A = ℕ} 0 1 = cc in absurd (omega arith)
-tally_refuses (refused r) n e = record { why = r; is = refl; numbered = cc }
 
 -- ---- forgetting, step by step
 pub forget_bind : (o : Outcome Tally) (f : Tally → Outcome Tally) (g : Float → Outcome Float) → ((t : Tally) → apply plain (f t) ≡ g t.value) → apply plain (bind o f) ≡ bind (apply plain o) g
@@ -61,20 +49,13 @@ module _ (N : Numbers Float) where
 
   more-raise : (k : ℕ) (w o : Bool) (p u q v : Tally) → p ≡ more k q → u ≡ more k v → raise w o p u ≡ apply (more k) (raise w o q v)
   unfolding raise
-  more-raise k true o p u q v e f = ap given e
-  more-raise k false true p u q v e f = ap given f
+  more-raise k true o p u q v e f = ap Ok e
+  more-raise k false true p u q v e f = ap Ok f
   more-raise k false false p u q v e f = refl
 
   pub more-raised : (x : Float) (k : ℕ) (e : Exponent) → raised_to (counting N) (tally x k) e ≡ apply (more k) (raised_to (counting N) (tally x 0) e)
   unfolding raised_to
   more-raised x k e = more-raise k (eqb e.den 1) (N.exactly_one x) _ _ _ _ (ap (tally _) (omega arith)) (ap (tally _) (omega arith))
-
-  -- a size that took k, raised, as code has it
-  pub raised_given : (x : Float) (k : ℕ) (e : Exponent) (t : Tally) → tallied_of (raised_to (counting N) (tally x 0) e) ≡ Value t → raised_to (counting N) (tally x k) e ≡ given (more k t)
-  raised_given x k e t h = more-raised x k e ∙ ap (apply (more k)) (tally_given (raised_to (counting N) (tally x 0) e) t h)
-
-  pub raised_refuses : (x : Float) (k : ℕ) (e : Exponent) (n : ℕ) → tallied_of (raised_to (counting N) (tally x 0) e) ≡ Refused n → Refuses (raised_to (counting N) (tally x k) e) n
-  raised_refuses x k e n h = let r = tally_refuses (raised_to (counting N) (tally x 0) e) n h in record { why = r.why; is = more-raised x k e ∙ ap (apply (more k)) r.is; numbered = r.numbered }
 
   scale_more : (size : Factor → Tally) (s : Tally) (k : ℕ) (l : List Factor) → scale_from_lem (counting N) size (more k s) l ≡ apply (more k) (scale_from_lem (counting N) size s l)
   unfolding scale_from_lem
@@ -87,7 +68,6 @@ module _ (N : Numbers Float) where
   pub more_scale : (size : Factor → Tally) (s : Float) (k : ℕ) (l : List Factor) → scale_from_lem (counting N) size (tally s k) l ≡ apply (more k) (scale_from_lem (counting N) size (tally s 0) l)
   more_scale size s k l = ap (λ u. scale_from_lem (counting N) size u l) (ap (tally s) (omega arith)) ∙ scale_more size (tally s 0) k l
 
--- what code hands over of a number alone
-pub plain-of : (o : Outcome Tally) → plain_of (tallied_of o) ≡ scaled_of (apply plain o)
-plain-of (given t) = refl
-plain-of (refused r) = refl
+-- a power as code has it
+pub plainly : (size : Float) (e : Exponent) → raised_to doubles size e ≡ apply (λ (t : Tally). t.value) (raised_to (counting doubles) (tally size 0) e)
+plainly size e = sym (forget_raised doubles (tally size 0) e)

@@ -6,45 +6,33 @@ use Prim.Native.Nat.{ℕ, zero, suc, ◌+◌, ◌-◌, ◌*◌, ◌≤◌, ◌<�
 use native.Mathlib.Omega.{arith}
 use lib.Dec.{ltb}
 use lib.ListN.{length, drop, get_or, set, replicate, length-map}
-use lib.Seq.{get_or-take, length-take-le}
 use borrow.Author.Tests.{ltb-true, not-false}
-use Rattle.exponents.specs.Outcome.{Outcome, given, bind}
+use Rattle.exponents.specs.Outcome.{Refusal, Outcome, Ok, Err, bind}
 use Rattle.exponents.specs.Fractions.{nought, add?, mul?, sum?, same, faulty}
-use Rattle.exponents.specs.Held.{fraction_of}
 use Rattle.exponents.specs.declared.Exponent.{Exponent}
-use Rattle.exponents.specs.declared.Fraction.TheVariants.{Exact, Refused}
-use Rattle.exponents.proofs.Holds.{bind_given, bind_refused, take_out, holds_bind, holds_eq}
+use Rattle.exponents.proofs.Holds.{take_out, holds_bind, holds_eq}
 use Rattle.exponents.proofs.Equality.{same_is}
-use Rattle.exponents.proofs.Numbers.{Refuses, exact_given, refused_refuses}
 use Rattle.exponents.proofs.Sound.{zero_term, add_sound}
 use Rattle.exponents.proofs.Summing.{sum_on, sum_off, sum_end}
 use Rattle.exponents.proofs.Traversal as each
 use Rattle.units.specs.declared.Factor.{Factor}
 use lib.IntN.{ℤ, pos}
-use lib.Ieee.{nan}
 use Rattle.units.specs.declared.Prefix.TheVariants.{Metric}
 use Rattle.units.specs.declared.Kind.TheVariants.{Base}
 use Rattle.units.specs.declared.Row.{Row}
 use Rattle.units.specs.Lists.{some, factor_fault}
 use Rattle.units.proofs.Laws.{none_at, stored}
 use Rattle.units.proofs.Sound.{exponent_sound}
-use Rattle.tables.specs.declared.Known.{Known}
 use Rattle.tables.specs.Lists.{base_at, base}
-use Rattle.tables.specs.Rows.{Facts, exp_at, places, bases, def_of}
-use Rattle.tables.specs.Held.{pack_exps, no_exps, exps_of, Filed}
+use Rattle.tables.specs.Rows.{Facts, exp_at, places, bases}
+use Rattle.tables.specs.Held.{pack_exps, exps_of, Filed}
 
 -- ---- one term more
 module _ (acc e d : Exponent) where
-  pub term_skip : faulty e ≡ false → faulty acc ≡ false → same d nought ≡ true → Exact acc ≡ fraction_of (bind (mul? e d) (λ t. add? acc t))
-  term_skip he ha h = sym (ap (λ (d : Exponent). fraction_of (bind (mul? e d) (λ t. add? acc t))) (same_is d nought h) ∙ ap fraction_of (zero_term e acc he ha))
+  pub term_skip : faulty e ≡ false → faulty acc ≡ false → same d nought ≡ true → Ok acc ≡ bind (mul? e d) (λ t. add? acc t)
+  term_skip he ha h = sym (ap (λ (d : Exponent). bind (mul? e d) (λ t. add? acc t)) (same_is d nought h) ∙ zero_term e acc he ha)
 
-  pub term_on : (x : Exponent) → fraction_of (mul? e d) ≡ Exact x → fraction_of (add? acc x) ≡ fraction_of (bind (mul? e d) (λ t. add? acc t))
-  term_on x h = sym (ap fraction_of (bind_given _ (exact_given (mul? e d) x h)))
-
-  pub term_off : (n : ℕ) → fraction_of (mul? e d) ≡ Refused n → Refused n ≡ fraction_of (bind (mul? e d) (λ t. add? acc t))
-  term_off n h = let r = refused_refuses (mul? e d) n h in sym (ap fraction_of (bind_refused _ r.is) ∙ ap Refused r.numbered)
-
-  pub term_sound : (x : Exponent) → bind (mul? e d) (λ t. add? acc t) ≡ given x → faulty x ≡ false
+  pub term_sound : (x : Exponent) → bind (mul? e d) (λ t. add? acc t) ≡ Ok x → faulty x ≡ false
   term_sound x h = take_out (holds_bind _ (holds_eq (mul? e d)) λ t _. add_sound acc t) h
 
 -- ---- base exponents in sixteen places
@@ -103,35 +91,15 @@ get_bases n ks s d h = get_map (exp_at ks) (places 0 n) s 0 d (rw (long_places 0
 abbrev pub nil_factor : Factor
 nil_factor = record { row = 0; prefix = Metric (pos 0); exponent = record { num = pos 0; den = 0 } }
 
-abbrev pub nil_known : Known
-nil_known = record { exps = []; scale = nan; rank = 0; base = false }
-
 abbrev pub nil_row : Row
 nil_row = record { def = []; len = 0; rank = 0; kind = Base }
 
--- ---- the factors of a definition, as they stand in its array
-pub record Defined (row : Row) : Type 0 where
-  pub short : row.len ≤ 8
-  pub full : length row.def ≡ 8
+-- ---- the factors of a checked definition: their exponents keep their rule, and the rows that they name are among the first n
+pub sound_at : (l : List Factor) (i : ℕ) (d : Factor) → i < length l → some factor_fault l ≡ false → faulty (get_or l i d).exponent ≡ false
+sound_at l i d h e = exponent_sound (get_or l i d) (none_at factor_fault l i d h e)
 
-module _ {row : Row} (g : Defined row) where
-  pub long_def : length (def_of row) ≡ row.len
-  long_def = length-take-le row.len row.def (omega (arith, g.short, g.full))
-
-  module _ (j : ℕ) (h : j < row.len) (f : Factor) where
-    pub def_at : get_or (def_of row) j f ≡ get_or row.def j f
-    def_at = get_or-take row.len row.def j f h
-
-    inside : j < length (def_of row)
-    inside = rw long_def h
-
-    -- a checked definition's exponents keep their rule
-    pub def_sound : some factor_fault (def_of row) ≡ false → faulty (get_or row.def j f).exponent ≡ false
-    def_sound e = ap (λ (g : Factor). faulty g.exponent) (sym def_at) ∙ exponent_sound (get_or (def_of row) j f) (none_at factor_fault (def_of row) j f inside e)
-
-    -- and the rows that it names are among the first n
-    pub row_below : (n : ℕ) → some (λ f. not (ltb f.row n)) (def_of row) ≡ false → (get_or row.def j f).row < n
-    row_below n e = rw (← def_at) (ltb-true _ n (not-false _ (none_at (λ f. not (ltb f.row n)) (def_of row) j f inside e)))
+pub named_at : (n : ℕ) (l : List Factor) (i : ℕ) (d : Factor) → i < length l → some (λ f. not (ltb f.row n)) l ≡ false → (get_or l i d).row < n
+named_at n l i d h e = ltb-true _ n (not-false _ (none_at (λ f. not (ltb f.row n)) l i d h e))
 
 -- what the code reads of row r at the base row s
 pub exponent_is : (ks : List Facts) (nums : List ℤ) (dens : List ℕ) (r s : ℕ) (d : Exponent) → Filed ks nums dens → r < length ks → s < 16
@@ -142,23 +110,19 @@ exponent_is ks nums dens r s d p h k t b = ap₂ (λ (n : ℤ) (m : ℕ). record
 abbrev pub term_at : List Facts → ℕ → Factor → Outcome Exponent
 term_at ks s f = mul? f.exponent (exp_at ks s f.row)
 
-module _ (row : Row) (ks : List Facts) (s j : ℕ) (f : Factor) (d acc : Exponent) (g : Defined row) (h : j < row.len)
-    (is : d ≡ exp_at ks s (get_or row.def j f).row) (so_far : sum? (term_at ks s) acc (drop j (def_of row)) ≡ sum? (term_at ks s) nought (def_of row)) where
-  step : bind (mul? (get_or row.def j f).exponent d) (λ t. add? acc t) ≡ bind (term_at ks s (get_or (def_of row) j f)) (λ t. add? acc t)
-  step =
-      ap (λ (y : Exponent). bind (mul? (get_or row.def j f).exponent y) (λ t. add? acc t)) is
-      ∙ ap (λ (g : Factor). bind (term_at ks s g) (λ t. add? acc t)) (sym (def_at g j h f))
+module _ (l : List Factor) (ks : List Facts) (s j : ℕ) (acc : Exponent) (so_far : sum? (term_at ks s) acc (drop j l) ≡ base_at l (exp_at ks s)) where
+  pub inner_end : length l ≤ j → base_at l (exp_at ks s) ≡ Ok acc
+  inner_end h = sym so_far ∙ sum_end (term_at ks s) l acc j h
 
-  pub inner_on : (u : Exponent) → bind (mul? (get_or row.def j f).exponent d) (λ t. add? acc t) ≡ given u → sum? (term_at ks s) u (drop (j + 1) (def_of row)) ≡ sum? (term_at ks s) nought (def_of row)
-  inner_on u e = sym (sum_on (term_at ks s) (def_of row) acc j f (rw (long_def g) h) u (sym step ∙ e)) ∙ so_far
+  module _ (f : Factor) (d : Exponent) (h : j < length l) (is : d ≡ exp_at ks s (get_or l j f).row) where
+    step : bind (mul? (get_or l j f).exponent d) (λ t. add? acc t) ≡ bind (term_at ks s (get_or l j f)) (λ t. add? acc t)
+    step = ap (λ (y : Exponent). bind (mul? (get_or l j f).exponent y) (λ t. add? acc t)) is
 
-  pub inner_off : (n : ℕ) → Refuses (bind (mul? (get_or row.def j f).exponent d) (λ t. add? acc t)) n → Refuses (base_at (def_of row) (exp_at ks s)) n
-  unfolding base_at
-  inner_off n r = record { why = r.why; is = sym so_far ∙ sum_off (term_at ks s) (def_of row) acc j f (rw (long_def g) h) r.why (sym step ∙ r.is); numbered = r.numbered }
+    pub inner_on : (u : Exponent) → bind (mul? (get_or l j f).exponent d) (λ t. add? acc t) ≡ Ok u → sum? (term_at ks s) u (drop (j + 1) l) ≡ base_at l (exp_at ks s)
+    inner_on u e = sym (sum_on (term_at ks s) l acc j f h u (sym step ∙ e)) ∙ so_far
 
-pub inner_end : (row : Row) (ks : List Facts) (s j : ℕ) (acc : Exponent) → Defined row → row.len ≤ j → sum? (term_at ks s) acc (drop j (def_of row)) ≡ sum? (term_at ks s) nought (def_of row) → base_at (def_of row) (exp_at ks s) ≡ given acc
-unfolding base_at
-inner_end row ks s j acc g h so_far = sym so_far ∙ sum_end (term_at ks s) (def_of row) acc j (omega (arith, long_def g))
+    pub inner_off : (r : Refusal) → bind (mul? (get_or l j f).exponent d) (λ t. add? acc t) ≡ Err r → base_at l (exp_at ks s) ≡ Err r
+    inner_off r e = sym so_far ∙ sum_off (term_at ks s) l acc j f h r (sym step ∙ e)
 
 -- ---- the outer loop: the base rows before s are worked out, and stand in `out`
 pub record Exping (l : List Factor) (bs : List (ℕ → Exponent)) (out : List Exponent) (s : ℕ) : Type 0 where
@@ -166,25 +130,26 @@ pub record Exping (l : List Factor) (bs : List (ℕ → Exponent)) (out : List E
   pub packed : out ≡ pack_exps done
   pub so_far : each.Upto (base_at l) bs s done
 
-pub exping_none : (l : List Factor) (bs : List (ℕ → Exponent)) (out : List Exponent) → out ≡ pack_exps [] → Exping l bs out 0
-exping_none l bs out e = record { done = []; packed = e; so_far = each.upto_none (base_at l) bs }
+pub exping_none : (l : List Factor) (bs : List (ℕ → Exponent)) → Exping l bs (replicate 16 nought) 0
+unfolding pack_exps
+exping_none l bs = record { done = []; packed = refl; so_far = each.upto_none (base_at l) bs }
 
 module _ (l : List Factor) (n : ℕ) (ks : List Facts) (out : List Exponent) (s : ℕ) (p : Exping l (bases n ks) out s) where
-  pub exping_end : n ≤ s → record { at = out; refusal = 0 } ≡ exps_of (base (bases n ks) l)
+  pub exping_end : n ≤ s → Ok out ≡ exps_of (base (bases n ks) l)
   unfolding base
-  exping_end h = ap (λ (o : List Exponent). record { at = o; refusal = 0 }) p.packed ∙ sym (ap exps_of (each.upto_end (base_at l) (bases n ks) s p.done p.so_far (omega (arith, long_bases n ks))))
+  exping_end h = ap Ok p.packed ∙ sym (ap exps_of (each.upto_end (base_at l) (bases n ks) s p.done p.so_far (omega (arith, long_bases n ks))))
 
   module _ (h : s < n) (k : s < 16) where
     here : base_at l (get_or (bases n ks) s (exp_at ks 0)) ≡ base_at l (exp_at ks s)
     here = ap (base_at l) (get_bases n ks s (exp_at ks 0) h)
 
-    pub exping_on : (e : Exponent) → base_at l (exp_at ks s) ≡ given e → Exping l (bases n ks) (set out s e) (s + 1)
+    pub exping_on : (e : Exponent) → base_at l (exp_at ks s) ≡ Ok e → Exping l (bases n ks) (set out s e) (s + 1)
     exping_on e q = record {
       done = p.done ++ (e ∷ []);
       packed = ap (λ (o : List Exponent). set o s e) p.packed ∙ push_exps p.done e s p.so_far.sized k;
       so_far = each.upto_on (base_at l) (bases n ks) s p.done p.so_far (exp_at ks 0) (rw (long_bases n ks) h) e (here ∙ q);
     }
 
-    pub exping_off : (m : ℕ) → Refuses (base_at l (exp_at ks s)) m → no_exps m ≡ exps_of (base (bases n ks) l)
+    pub exping_off : (r : Refusal) → base_at l (exp_at ks s) ≡ Err r → Err r ≡ exps_of (base (bases n ks) l)
     unfolding base
-    exping_off m r = ap no_exps (sym r.numbered) ∙ sym (ap exps_of (each.upto_off (base_at l) (bases n ks) s p.done p.so_far (exp_at ks 0) (rw (long_bases n ks) h) r.why (here ∙ r.is)))
+    exping_off r e = sym (ap exps_of (each.upto_off (base_at l) (bases n ks) s p.done p.so_far (exp_at ks 0) (rw (long_bases n ks) h) r (here ∙ e)))

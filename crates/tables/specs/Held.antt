@@ -1,10 +1,10 @@
 -- How code holds an admitted table, a call's lists resolved against it, and what is worked out on the way. No rule stands here: nothing that a call promises names these.
-use Rattle.std.specs.Prelude.{◌≡◌, ◌⊎◌, Bool, true, false, not, List, [], ◌∷◌, ◌++◌, map, ltb, eqb, ℤ, pos, length, get_or, replicate, Float}
+use Rattle.std.specs.Prelude.{◌≡◌, ◌⊎◌, Result, Bool, true, false, not, List, [], ◌∷◌, ◌++◌, map, ltb, eqb, ℤ, pos, length, get_or, replicate, Float}
 use Prim.Native.Nat.{ℕ, suc, ◌+◌, ◌-◌, ◌*◌, ◌<◌, ◌≤◌, compare, Ordering}
 use Rattle.std.specs.Float.{binary64}
 use Rattle.std.specs.Float.Ieee.{mul}
 use Rattle.exponents.specs.Words.{All}
-use Rattle.exponents.specs.Outcome.{Outcome, given, refused, number, refusal_of, apply, bind}
+use Rattle.exponents.specs.Outcome.{Outcome, Ok, Err, apply, bind, tested}
 use Rattle.exponents.specs.Fractions.{nought}
 use Rattle.exponents.specs.declared.Exponent.{Exponent}
 use Rattle.floats.specs.Power.{one}
@@ -25,14 +25,11 @@ use Rattle.tables.specs.declared.Slot.{Slot}
 use Rattle.tables.specs.declared.Slots.{Slots}
 use Rattle.tables.specs.declared.Known.{Known}
 use Rattle.tables.specs.declared.Admitted.{Admitted}
+use Rattle.tables.specs.declared.Rejected.{Rejected}
+use Rattle.tables.specs.declared.pages.Columns.{Columns}
+use Rattle.tables.specs.declared.pages.Bases.{Bases}
 use Rattle.tables.specs.declared.Item.{Item}
 use Rattle.tables.specs.declared.Items.{Items}
-use Rattle.tables.specs.declared.rows.Worked.{Worked}
-use Rattle.tables.specs.declared.rows.Exps.{Exps}
-use Rattle.tables.specs.declared.scales.Scaled.{Scaled}
-use Rattle.tables.specs.declared.scales.Scaled.TheVariants.{Value, Refused}
-use Rattle.tables.specs.declared.scales.Tallied.{Tallied}
-use Rattle.tables.specs.declared.scales.Tallied.TheVariants as tallied
 use Rattle.floats.specs.declared.Tally.{Tally}
 
 -- ---- rows: arrays of 16, clean past their ends
@@ -50,41 +47,16 @@ pack_exps es = es ++ replicate (16 - length es) nought
 unfoldable pub known_of : Facts → Known
 known_of k = record { exps = pack_exps k.exps; scale = k.scale; rank = k.rank; base = k.base }
 
-abbrev pub blank_known : Known
-blank_known = record { exps = replicate 16 nought; scale = one; rank = 0; base = false }
-
-abbrev pub no_exps : ℕ → Exps
-no_exps n = record { at = pack_exps []; refusal = n }
-
-abbrev pub exps_of : Outcome (List Exponent) → Exps
-exps_of (given es) = record { at = pack_exps es; refusal = 0 }
-exps_of (refused r) = no_exps (number r)
-
-abbrev pub scaled_of : Outcome Float → Scaled
-scaled_of (given v) = Value v
-scaled_of (refused r) = Refused (number r)
-
--- the same with the multiplications that it took
-abbrev pub tallied_of : Outcome Tally → Tallied
-tallied_of (given t) = tallied.Value t
-tallied_of (refused r) = tallied.Refused (number r)
-
--- the scale alone
-abbrev pub plain_of : Tallied → Scaled
-plain_of (tallied.Value t) = Value t.value
-plain_of (tallied.Refused r) = Refused r
+abbrev pub exps_of : Outcome (List Exponent) → Outcome (List Exponent)
+exps_of = apply pack_exps
 
 -- it took at most so many
-abbrev pub Within : ℕ → Tallied → Type 0
-Within n (tallied.Value t) = t.count ≤ n
-Within n (tallied.Refused r) = Unit {0}
+abbrev pub Within : ℕ → Outcome Tally → Type 0
+Within n (Ok t) = t.count ≤ n
+Within n (Err r) = Unit {0}
 
-abbrev pub unworked : ℕ → Worked
-unworked n = record { known = blank_known; refusal = n }
-
-abbrev pub worked_of : Outcome Facts → Worked
-worked_of (given k) = record { known = known_of k; refusal = 0 }
-worked_of (refused r) = unworked (number r)
+abbrev pub worked_of : Outcome Facts → Outcome Known
+worked_of = apply known_of
 
 -- one row more
 unfoldable pub counted : Kind → ℕ → ℕ
@@ -97,7 +69,7 @@ row_derived n ks r f =
     bind (base (bases n ks) (def_of r)) (λ e.
     bind (key e) (λ k.
     bind (apply (mul binary64 f) (scale doubles (size_by (scale_at ks)) (def_of r))) (λ s.
-    given (record { exps = e; key = k; scale = s; rank = r.rank; base = false }))))
+    Ok (record { exps = e; key = k; scale = s; rank = r.rank; base = false }))))
 
 -- ---- an admitted table: five arrays of plain numbers. Row r's base exponents stand at 16 r and the places behind it; its scale, rank and kind at r.
 
@@ -156,25 +128,34 @@ abbrev pub Pages : Admission → List ℤ → List ℕ → List Float → List �
 Pages (admitted ks) nums dens scales ranks based = Paged ks nums dens scales ranks based
 Pages (stopped r ks) nums dens scales ranks based = Unit {0}
 
--- a refused table has no base rows, and tells how many rows stood before the fault
-abbrev pub admitted_of : List Slot → Admission → Admitted
-admitted_of ss (admitted ks) = record { slots = pack_slots ss; len = length ks; refusal = 0 }
-admitted_of ss (stopped r ks) = record { slots = pack_slots []; len = length ks; refusal = number r }
+-- a refused table tells how many rows stood before the fault
+abbrev pub admitted_of : List Slot → Admission → Result Admitted Rejected
+admitted_of ss (admitted ks) = Ok (record { slots = pack_slots ss; len = length ks })
+admitted_of ss (stopped r ks) = Err (record { refusal = r; len = length ks })
 
 -- t is what code holds of the table `rows`: its base rows and how many rows it has, or the refusal; the arrays tell the rest
-pub record Admits (rows : Rows) (t : Admitted) (nums : List ℤ) (dens : List ℕ) (scales : List Float) (ranks : List ℕ) (based : List Bool) : Type 0 where
+pub record Admits (rows : Rows) (t : Result Admitted Rejected) (nums : List ℤ) (dens : List ℕ) (scales : List Float) (ranks : List ℕ) (based : List Bool) : Type 0 where
   pub is : t ≡ admitted_of (base_rows rows) (admit rows)
-  pub room : Room nums dens scales ranks based
   pub pages : Pages (admit rows) nums dens scales ranks based
 
--- one row more, as the number of its refusal, 0 for none, and as the arrays after it
-abbrev pub RowIn : List Slot → List Facts → Row → ℕ → List ℤ → List ℕ → List Float → List ℕ → List Bool → Type 0
-RowIn ss ks row n nums dens scales ranks based = (n ≡ refusal_of (row_facts ss ks row)) × ((k : Facts) → row_facts ss ks row ≡ given k → Paged (ks ++ (k ∷ [])) nums dens scales ranks based)
+-- one row more, as its refusal or none, and as the arrays after it
+abbrev pub RowIn : List Slot → List Facts → Row → Outcome (Unit {0}) → List ℤ → List ℕ → List Float → List ℕ → List Bool → Type 0
+RowIn ss ks row o nums dens scales ranks based = (o ≡ tested (row_facts ss ks row)) × ((k : Facts) → row_facts ss ks row ≡ Ok k → Paged (ks ++ (k ∷ [])) nums dens scales ranks based)
 
 -- that of row i, with so many base rows before it, from the arrays before it to those after it
-pub record Enters (slots : Slots) (i bases : ℕ) (row : Row) (n : ℕ) (nums : List ℤ) (dens : List ℕ) (scales : List Float) (ranks : List ℕ) (based : List Bool) (nums' : List ℤ) (dens' : List ℕ) (scales' : List Float) (ranks' : List ℕ) (based' : List Bool) : Type 0 where
-  pub room : Room nums' dens' scales' ranks' based'
-  pub joins : (ss : List Slot) (ks : List Facts) → slots ≡ pack_slots ss → i ≡ length ks → bases ≡ count ks → Paged ks nums dens scales ranks based → RowIn ss ks row n nums' dens' scales' ranks' based'
+pub record Enters (slots : Slots) (i bases : ℕ) (row : Row) (o : Outcome (Unit {0})) (nums : List ℤ) (dens : List ℕ) (scales : List Float) (ranks : List ℕ) (based : List Bool) (nums' : List ℤ) (dens' : List ℕ) (scales' : List Float) (ranks' : List ℕ) (based' : List Bool) : Type 0 where
+  pub joins : (ss : List Slot) (ks : List Facts) → slots ≡ pack_slots ss → i ≡ length ks → bases ≡ count ks → Paged ks nums dens scales ranks based → RowIn ss ks row o nums' dens' scales' ranks' based'
+
+-- ---- the same, of the columns as code holds them
+
+abbrev pub BlankIn : ℕ → Columns → Type 0
+BlankIn n c = Blank n c.nums c.dens
+
+abbrev pub AdmitsIn : Rows → Result Admitted Rejected → Columns → Type 0
+AdmitsIn rows t c = Admits rows t c.nums c.dens c.scales c.ranks c.based
+
+abbrev pub EntersIn : Slots → ℕ → ℕ → Row → Outcome (Unit {0}) → Columns → Columns → Type 0
+EntersIn slots i bases row o c d = Enters slots i bases row o c.nums c.dens c.scales c.ranks c.based d.nums d.dens d.scales d.ranks d.based
 
 -- ---- a table as the lists of a call see it
 
@@ -263,6 +244,10 @@ pub record Lends (v : View) (n : ℕ) (nums : List ℤ) (dens : List ℕ) : Type
   pub lent : Lent v nums dens
   pub short : (r : ℕ) → length (v.exps r) ≤ 16
   pub few : n ≤ 16
+
+-- the same of both columns, lent together
+abbrev pub LendsIn : View → ℕ → Bases → Type 0
+LendsIn v n b = Lends v n b.nums.now b.dens.now
 
 -- ---- a resolved list
 

@@ -3,7 +3,7 @@ use Rattle.std.specs.Prelude.{Bool, true, false, not, ◌||◌, List, [], ◌∷
 use Rattle.std.specs.Float.{binary64, nan}
 use Rattle.std.specs.Float.Ieee.{mul}
 use Rattle.exponents.specs.Words.{pick}
-use Rattle.exponents.specs.Outcome.{Refusal, TABLE, SHAPE, Outcome, given, refused, unless, apply, bind}
+use Rattle.exponents.specs.Outcome.{Refusal, TABLE, SHAPE, Outcome, Ok, Err, unless, apply, bind}
 use Rattle.exponents.specs.Fractions.{nought, unit}
 use Rattle.exponents.specs.declared.Exponent.{Exponent}
 use Rattle.floats.specs.Power.{one}
@@ -103,12 +103,12 @@ self_exp i s = pick (eqb s.row i) unit nought
 
 -- a base row has 1 at itself, a derived row what its definition has
 unfoldable pub row_exps : Kind → List Slot → List Facts → Row → Outcome (List Exponent)
-row_exps Base ss ks r = given (map (self_exp (length ks)) ss)
+row_exps Base ss ks r = Ok (map (self_exp (length ks)) ss)
 row_exps (Derived f) ss ks r = base (bases (length ss) ks) (def_of r)
 
 -- a base row's scale is 1, a derived row's its factor times its definition's
 unfoldable pub row_scale : Kind → List Facts → Row → Outcome Float
-row_scale Base ks r = given one
+row_scale Base ks r = Ok one
 row_scale (Derived f) ks r = apply (mul binary64 f) (scale doubles (size_by (scale_at ks)) (def_of r))
 
 -- RANGE or DENOMINATOR of the base exponents, DENOMINATOR of the key, then FRACTION
@@ -117,7 +117,7 @@ worked_out ss ks r =
     bind (row_exps r.kind ss ks r) (λ e.
     bind (key e) (λ k.
     bind (row_scale r.kind ks r) (λ s.
-    given (record { exps = e; key = k; scale = s; rank = r.rank; base = is_base r.kind }))))
+    Ok (record { exps = e; key = k; scale = s; rank = r.rank; base = is_base r.kind }))))
 
 unfoldable pub row_facts : List Slot → List Facts → Row → Outcome Facts
 row_facts ss ks r =
@@ -134,8 +134,8 @@ pub data Admission : Type 0 where
 
 -- `next` is the rest of the fold over the rows; a refusal ends it
 abbrev pub admit_on : Outcome Facts → List Facts → (Facts → Admission) → Admission
-admit_on (given k) ks next = next k
-admit_on (refused w) ks next = stopped w ks
+admit_on (Ok k) ks next = next k
+admit_on (Err w) ks next = stopped w ks
 
 unfoldable pub admit_from : List Slot → List Facts → List Row → Admission
 admit_from ss ks [] = admitted ks
@@ -151,8 +151,8 @@ admit r = pick (ltb 128 r.len) (stopped TABLE []) (admit_from (slots (rows_of r)
 
 -- what is known of the rows, or the table's refusal
 abbrev pub known : Admission → Outcome (List Facts)
-known (admitted ks) = given ks
-known (stopped r ks) = refused r
+known (admitted ks) = Ok ks
+known (stopped r ks) = Err r
 
 abbrev pub table : Rows → Outcome (List Facts)
 table t = known (admit t)

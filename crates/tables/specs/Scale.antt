@@ -2,7 +2,7 @@
 use Rattle.std.specs.Prelude.{Bool, true, false, List, [], ◌∷◌, ℕ, ◌+◌, ℤ, pos, eqb, Float}
 use Rattle.std.specs.Float.{binary64}
 use Rattle.std.specs.Float.Ieee.{mul, div}
-use Rattle.exponents.specs.Outcome.{Outcome, given, refused, FRACTION, bind}
+use Rattle.exponents.specs.Outcome.{Outcome, Ok, Err, FRACTION, bind}
 use Rattle.floats.specs.Power as powers
 use Rattle.floats.specs.Power.{tally, power_count}
 use Rattle.floats.specs.declared.Tally.{Tally}
@@ -45,9 +45,9 @@ counting N = record {
 module _ {R : Type 0} where
   -- p is the power to a whole exponent; else exactly 1 gives 1
   unfoldable pub raise : Bool → Bool → R → R → Outcome R
-  raise true one? p u = given p
-  raise false true p u = given u
-  raise false false p u = refused FRACTION
+  raise true one? p u = Ok p
+  raise false true p u = Ok u
+  raise false false p u = Err FRACTION
 
 -- a to the e; the 1 that exactly 1 gives is its power to 0
 unfoldable pub raised_to : {R : Type 0} → Numbers R → R → Exponent → Outcome R
@@ -57,7 +57,7 @@ raised_to N a e = raise (eqb e.den 1) (N.exactly_one a) (N.power a e.num) (N.pow
 module _ {R : Type 0} (N : Numbers R) (size : Factor → R) where
   -- s times the scale of a list
   unfoldable pub scale_from_lem : R → List Factor → Outcome R
-  scale_from_lem s [] = given s
+  scale_from_lem s [] = Ok s
   scale_from_lem s (f ∷ l) = bind (raised_to N (size f) f.exponent) (λ p. scale_from_lem (N.times s p) l)
 
   abbrev pub scale : List Factor → Outcome R

@@ -3,60 +3,44 @@ ghost use Rattle.std.specs.Prelude.{◌≡◌, ◌||◌, not, [], ◌≤◌, ◌
 ghost use Rattle.units.specs.Lists.{some};
 ghost use Rattle.tables.specs.Rows as spec;
 ghost use Rattle.tables.specs.Rows.{rows_of, def_of};
-ghost use Rattle.tables.specs.Held.{pack_slots, Room, Blank, counted, Admits, Enters};
+ghost use Rattle.tables.specs.Held.{pack_slots, BlankIn, counted, AdmitsIn, EntersIn};
 
-use super::{Admitted, Slot, Slots, pages, ranked, rows};
-use exponents::refusals::{SHAPE, TABLE};
+use super::pages::Columns;
+use super::{Admitted, Rejected, Slot, Slots, pages, ranked, rows};
+use exponents::refusals::Refusal;
 use units::{Kind, Row, Rows};
-
-// A refused table, and how many rows stood before the fault.
-pub fn refused(refusal: u32, len: usize) -> Admitted
-    ensures { result ≡ record { slots = pack_slots []; len = len; refusal = refusal } }
-{
-    let slots = ranked::no_slots();
-    Admitted {
-        slots: slots,
-        len: len,
-        refusal: refusal,
-    }
-}
 
 // The base rows in rank order.
 fn slots_of(rows: Rows) -> Slots
     requires { rows.len ≤ 128 }
     ensures { result ≡ pack_slots (spec.slots (rows_of rows)) }
 {
-    let n = rows.len;
     let mut slots = ranked::no_slots();
-    let mut i: usize = 0;
-    while i < n {
-        let r = rows.at[i];
-        let k = r.kind;
+    for i in 0..rows.len {
         let s = Slot {
             row: i as u32,
-            rank: r.rank,
+            rank: rows.at[i].rank,
         };
-        slots = ranked::slotted(slots, k, s);
-        i += 1;
+        slots = ranked::slotted(slots, rows.at[i].kind, s);
     }
     slots
 }
 
 // Whether a rank was met among the first n. No way out early: this is the loop that every row pays for.
+#[tactic(auto, using(exponents::proofs::Taking::drop_step_of, exponents::proofs::Taking::drop_end_of, crate::proofs::Search::told_more, crate::proofs::Search::told_none), unfolding(units::specs::Lists::some))]
 fn rank_met(ranks: &[u16], n: usize, rank: u16) -> bool
     requires { n ≤ length ranks.now }
     ensures { result ≡ some (λ x. eqb x rank) (take n ranks.now) }
 {
     let mut met = false;
-    let mut i: usize = 0;
-    while i < n {
-        met = met | (ranks[i] == rank);
-        i += 1;
+    for x in &ranks[..n] {
+        met = met | (*x == rank);
     }
     met
 }
 
 // A seventeenth base row, a base row with a definition; a factor that isn't finite and above zero.
+#[tactic(auto, unfolding(crate::specs::Rows::kind_fault))]
 fn kind_fault(k: Kind, bases: usize, len: usize) -> bool
     ensures { result ≡ spec.kind_fault k bases len }
 {
@@ -70,11 +54,11 @@ fn kind_fault(k: Kind, bases: usize, len: usize) -> bool
 fn row_fault(row: Row, bases: usize, met: bool) -> bool
     ensures { result ≡ met || spec.kind_fault row.kind bases row.len || ltb 8 row.len }
 {
-    let k = row.kind;
-    met | kind_fault(k, bases, row.len) | (8 < row.len)
+    met | kind_fault(row.kind, bases, row.len) | (8 < row.len)
 }
 
 // How many base rows there are with one row more.
+#[tactic(auto, unfolding(crate::specs::Held::counted))]
 pub fn counted(k: Kind, bases: usize) -> usize
     requires { bases ≤ 16 }
     ensures { result ≡ counted k bases }
@@ -86,58 +70,46 @@ pub fn counted(k: Kind, bases: usize) -> usize
 }
 
 // Whether a definition names its own row, i, or a higher one.
+#[tactic(auto, using(exponents::proofs::Taking::drop_step_of, exponents::proofs::Taking::drop_end_of), unfolding(units::specs::Lists::some))]
 fn names_ahead(row: Row, i: usize) -> bool
     requires { row.len ≤ 8 }
     ensures { result ≡ some (λ f. not (ltb f.row i)) (def_of row) }
 {
-    let m = row.len;
-    let mut j: usize = 0;
-    while j < m {
-        let f = row.def[j];
+    for f in &row.def[..row.len] {
         if i <= (f.row as usize) {
             return true;
         }
-        j += 1;
     }
     false
 }
 
-// Row i put behind the rows before it, of which `bases` are base: 0, or the number of its refusal.
+// Row i put behind the rows before it, of which `bases` are base; or its refusal.
 pub fn admit_row(
     row: Row,
     i: usize,
     slots: Slots,
     bases: usize,
-    nums: &mut [i32],
-    dens: &mut [u32],
-    scales: &mut [f64],
-    ranks: &mut [u16],
-    based: &mut [bool],
-) -> u32
-    requires { (i < 128) × (slots.len ≤ 16) × Room nums.old dens.old scales.old ranks.old based.old }
-    ensures { Enters slots i bases row result nums.old dens.old scales.old ranks.old based.old nums.new dens.new scales.new ranks.new based.new }
+    columns: &mut Columns,
+) -> Result<(), Refusal>
+    requires { (i < 128) × (slots.len ≤ 16) }
+    ensures { EntersIn slots i bases row result columns.old columns.new }
 {
-    let met = rank_met(ranks, i, row.rank);
+    let met = rank_met(&columns.ranks, i, row.rank);
     if row_fault(row, bases, met) {
-        return TABLE;
+        return Err(Refusal::Table);
     }
     if names_ahead(row, i) {
-        return TABLE;
+        return Err(Refusal::Table);
     }
     if rows::def_fault(row) {
-        return SHAPE;
+        return Err(Refusal::Shape);
     }
-    let w = rows::work_out(row, nums, dens, scales, slots, i);
-    if w.refusal != 0 {
-        return w.refusal;
-    }
-    let k = w.known;
-    let e = k.exps;
-    pages::put_exps(nums, dens, i * 16, e);
-    scales[i] = k.scale;
-    ranks[i] = k.rank;
-    based[i] = k.base;
-    0
+    let k = rows::work_out(row, columns, slots, i)?;
+    pages::put_exps(&mut columns.nums, &mut columns.dens, i * 16, k.exps);
+    columns.scales[i] = k.scale;
+    columns.ranks[i] = k.rank;
+    columns.based[i] = k.base;
+    Ok(())
 }
 
 // A row as it is. A call's result has its arrays' lengths, which an element of an array has not.
@@ -147,38 +119,27 @@ fn taken(row: Row) -> Row
     row
 }
 
-// The rows of a table, put in the five arrays; or the first fault's refusal, and how many rows stood before it.
-pub fn admit(
-    rows: Rows,
-    nums: &mut [i32],
-    dens: &mut [u32],
-    scales: &mut [f64],
-    ranks: &mut [u16],
-    based: &mut [bool],
-) -> Admitted
-    requires { Room nums.old dens.old scales.old ranks.old based.old × Blank 0 nums.old dens.old }
-    ensures { Admits rows result nums.new dens.new scales.new ranks.new based.new }
+// The rows of a table, put in columns; or the first fault's refusal, and how many rows stood before it.
+pub fn admit(rows: Rows, columns: &mut Columns) -> Result<Admitted, Rejected>
+    requires { BlankIn 0 columns.old }
+    ensures { AdmitsIn rows result columns.new }
 {
     let n = rows.len;
     if 128 < n {
-        return refused(TABLE, 0);
+        return Err(Rejected {
+            refusal: Refusal::Table,
+            len: 0,
+        });
     }
     let slots = slots_of(rows);
-    let mut bases: usize = 0;
-    let mut i: usize = 0;
-    while i < n {
+    let mut bases = 0;
+    for i in 0..n {
         let row = taken(rows.at[i]);
-        let c = admit_row(row, i, slots, bases, nums, dens, scales, ranks, based);
-        if c != 0 {
-            return refused(c, i);
+        let entered = admit_row(row, i, slots, bases, columns);
+        if let Err(refusal) = entered {
+            return Err(Rejected { refusal, len: i });
         }
-        let k = row.kind;
-        bases = counted(k, bases);
-        i += 1;
+        bases = counted(row.kind, bases);
     }
-    Admitted {
-        slots: slots,
-        len: n,
-        refusal: 0,
-    }
+    Ok(Admitted { slots, len: n })
 }

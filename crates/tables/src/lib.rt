@@ -6,6 +6,7 @@ ghost use Rattle.std.specs.Prelude.{◌≡◌, []};
 ghost use Rattle.tables.specs.Held.{packed};
 
 use exponents::Exponent;
+use exponents::refusals::Refusal;
 use units::Factor;
 
 pub mod ranked; // the base rows in rank order
@@ -25,6 +26,7 @@ pub struct Slot {
 #[derive(Clone, Copy, Drop)]
 pub struct Slots {
     pub at: [Slot; 16],
+    // Kept: no heap, so a buffer of a fixed size and how many of its places hold something.
     pub len: usize,
 }
 
@@ -37,16 +39,30 @@ pub struct Known {
     pub base: bool,
 }
 
-// The base rows and the number of rows of an admitted table; or a refusal's number, and how many rows stood before the fault.
+// The base rows and the number of rows of an admitted table.
 #[derive(Clone, Copy, Drop)]
 pub struct Admitted {
     pub slots: Slots,
     pub len: usize,
-    pub refusal: u32,
+}
+
+// Why a table is refused, and how many rows stood before the fault.
+#[derive(Clone, Copy, Drop)]
+pub struct Rejected {
+    pub refusal: Refusal,
+    pub len: usize,
+}
+
+impl From<Rejected> for Refusal {
+    ghost from_gives = { λ j r. r ≡ j.refusal };
+
+    fn from(rejected: Rejected) -> Refusal {
+        rejected.refusal
+    }
 }
 
 // A factor with what is known of its row: its scale, its place in the order of rows and its key's class among the rows of
-// the call, and whether it is base. Its base exponents stay in the table's arrays, by the row's number: lists are copied often.
+// the call, and whether it is base. Its base exponents stay in the table's columns, by the row's number: lists are copied often.
 #[derive(Clone, Copy, Drop)]
 pub struct Item {
     pub factor: Factor,
@@ -60,10 +76,12 @@ pub struct Item {
 #[derive(Clone, Copy, Drop)]
 pub struct Items {
     pub at: [Item; 16],
+    // Kept: no heap, so a buffer of a fixed size and how many of its places hold something.
     pub len: usize,
 }
 
 // The empty list.
+#[tactic(auto, unfolding(crate::specs::Held::packed))]
 pub fn no_items() -> Items
     ensures { result ≡ packed [] }
 {

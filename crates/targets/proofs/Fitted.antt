@@ -8,14 +8,10 @@ use native.Mathlib.Numerals.{add-one}
 use native.Mathlib.Omega.{arith}
 use lib.IntN.{ℤ, pos, negsuc}
 use lib.ListN.{length, drop, get_or}
-use Rattle.exponents.specs.Outcome.{Outcome, given, apply, bind, each}
+use Rattle.exponents.specs.Outcome.{Refusal, Outcome, Ok, Err, apply, bind, each}
 use Rattle.exponents.specs.Fractions.{nought, unit, same_z, same, add?, mul?, div?, sum?}
-use Rattle.exponents.specs.Held.{fraction_of}
 use Rattle.exponents.specs.declared.Exponent.{Exponent}
-use Rattle.exponents.specs.declared.Fraction.{Fraction}
-use Rattle.exponents.specs.declared.Fraction.TheVariants.{Exact, Refused}
 use Rattle.exponents.proofs.Holds.{one_answer, bind_given, bind_refused}
-use Rattle.exponents.proofs.Numbers.{Refuses, exact_given, refused_refuses}
 use Rattle.exponents.proofs.Summing.{sum_on, sum_off, sum_end}
 use Rattle.units.specs.declared.Factor.{Factor}
 use Rattle.tables.specs.declared.Item.{Item}
@@ -28,8 +24,7 @@ use Rattle.tables.specs.Held.{pack_exps, told, View, view_bases, item_of, pack_i
 use Rattle.tables.specs.Order.{atom, of}
 use Rattle.tables.specs.Rules.{Rules}
 use Rattle.canonical.specs.Canonical.{all_nought}
-use Rattle.canonical.specs.Held.{with_factor, empty_but, form_of}
-use Rattle.canonical.specs.declared.form.Form.{Form}
+use Rattle.canonical.specs.Held.{with_factor, form_of}
 use Rattle.reduction.proofs.Compared.{packed-nought}
 use Rattle.reduction.proofs.Resolved.{nil_item, item_at}
 use Rattle.targets.specs.Held.{first_told, with_share}
@@ -97,58 +92,52 @@ read_first f (suc n) p (e ∷ es) k h =
     (read_first f n (suc p) es (omega arith) (λ s l. h (suc s) (omega arith) ∙ spot f (p + suc s) (suc p + s) (omega arith)))
 
 -- what the arrays tell is the row's
-pub told-first : {v : View} {n : ℕ} {nums : List ℤ} {dens : List ℕ} → Lends v n nums dens → (r : ℕ) → first_told nums dens r ≡ firsts v r
+pub told_first : {v : View} {n : ℕ} {nums : List ℤ} {dens : List ℕ} → Lends v n nums dens → (r : ℕ) → first_told nums dens r ≡ firsts v r
 unfolding first_told
-told-first {v} {n} {nums} {dens} k r = read_first (told nums dens r) 16 0 (v.exps r) (k.short r) (λ s l. k.lent r s l ∙ spot (told nums dens r) s (0 + s) (omega arith))
+told_first {v} {n} {nums} {dens} k r = read_first (told nums dens r) 16 0 (v.exps r) (k.short r) (λ s l. k.lent r s l ∙ spot (told nums dens r) s (0 + s) (omega arith))
 
 -- ---- what an item has in a representative, added to acc: w is the first base exponent of its row
 module _ (v : View) (d acc : Exponent) (it : Item) (f : Factor) (e : it ≡ item_of v f) (w : Exponent) (is : w ≡ firsts v it.factor.row) where
   there : mul? it.factor.exponent w ≡ mul? f.exponent (firsts v f.row)
   there = ap (mul? it.factor.exponent) is ∙ ap (λ (it : Item). mul? it.factor.exponent (firsts v it.factor.row)) e
 
-  pub share_off : (n : ℕ) → fraction_of (mul? it.factor.exponent w) ≡ Refused n → Refused n ≡ fraction_of (with_share (firsts v) d acc f)
+  pub share_off : (r : Refusal) → Err r ≡ mul? it.factor.exponent w → Err r ≡ with_share (firsts v) d acc f
   unfolding with_share share
-  share_off n q =
-      let r = refused_refuses (mul? it.factor.exponent w) n q in
-      ap Refused (sym r.numbered) ∙ sym (ap fraction_of (bind_refused _ (bind_refused _ (sym there ∙ r.is))))
+  share_off r q = sym (bind_refused _ (bind_refused _ (sym there ∙ sym q)))
 
-  module _ (p : Exponent) (g : fraction_of (mul? it.factor.exponent w) ≡ Exact p) where
+  module _ (p : Exponent) (g : Ok p ≡ mul? it.factor.exponent w) where
     divided : share (firsts v) d f ≡ div? p d
     unfolding share
-    divided = bind_given _ (sym there ∙ exact_given (mul? it.factor.exponent w) p g)
+    divided = bind_given _ (sym there ∙ sym g)
 
-    pub share_apart : (n : ℕ) → fraction_of (div? p d) ≡ Refused n → Refused n ≡ fraction_of (with_share (firsts v) d acc f)
+    pub share_apart : (r : Refusal) → Err r ≡ div? p d → Err r ≡ with_share (firsts v) d acc f
     unfolding with_share
-    share_apart n q =
-        let r = refused_refuses (div? p d) n q in
-        ap Refused (sym r.numbered) ∙ sym (ap fraction_of (bind_refused _ (divided ∙ r.is)))
+    share_apart r q = sym (bind_refused _ (divided ∙ sym q))
 
-    pub share_on : (q : Exponent) → fraction_of (div? p d) ≡ Exact q → fraction_of (add? acc q) ≡ fraction_of (with_share (firsts v) d acc f)
+    pub share_on : (q : Exponent) → Ok q ≡ div? p d → add? acc q ≡ with_share (firsts v) d acc f
     unfolding with_share
-    share_on q k = sym (ap fraction_of (bind_given _ (divided ∙ exact_given (div? p d) q k)))
+    share_on q k = sym (bind_given _ (divided ∙ sym k))
 
 -- ---- the summed exponents: those of the factors before i are in acc
 module _ (v : View) (d : Exponent) (fs : List Factor) (i : ℕ) (acc : Exponent) (so_far : sum? (share (firsts v) d) acc (drop i fs) ≡ summed (firsts v) d fs) where
-  module _ (g : Factor) (h : i < length fs) (x : Fraction) (is : x ≡ fraction_of (with_share (firsts v) d acc (get_or fs i g))) where
-    pub summed_on : (t : Exponent) → x ≡ Exact t → sum? (share (firsts v) d) t (drop (i + 1) fs) ≡ summed (firsts v) d fs
+  module _ (g : Factor) (h : i < length fs) where
+    pub summed_on : (t : Exponent) → Ok t ≡ with_share (firsts v) d acc (get_or fs i g) → sum? (share (firsts v) d) t (drop (i + 1) fs) ≡ summed (firsts v) d fs
     unfolding with_share
-    summed_on t e = sym (sum_on (share (firsts v) d) fs acc i g h t (exact_given _ t (sym is ∙ e))) ∙ so_far
+    summed_on t e = sym (sum_on (share (firsts v) d) fs acc i g h t (sym e)) ∙ so_far
 
-    pub summed_off : (n : ℕ) → x ≡ Refused n → Refused n ≡ fraction_of (summed (firsts v) d fs)
+    pub summed_off : (r : Refusal) → Err r ≡ with_share (firsts v) d acc (get_or fs i g) → Err r ≡ summed (firsts v) d fs
     unfolding with_share
-    summed_off n e =
-        let r = refused_refuses _ n (sym is ∙ e) in
-        ap Refused (sym r.numbered) ∙ sym (ap fraction_of (sym so_far ∙ sum_off (share (firsts v) d) fs acc i g h r.why r.is))
+    summed_off r e = sym (sum_off (share (firsts v) d) fs acc i g h r (sym e)) ∙ so_far
 
-  pub summed_end : length fs ≤ i → Exact acc ≡ fraction_of (summed (firsts v) d fs)
-  summed_end h = sym (ap fraction_of (sym so_far ∙ sum_end (share (firsts v) d) fs acc i h))
+  pub summed_end : length fs ≤ i → Ok acc ≡ summed (firsts v) d fs
+  summed_end h = sym (sum_end (share (firsts v) d) fs acc i h) ∙ so_far
 
 pub summed_start : (v : View) (d : Exponent) (fs : List Factor) → sum? (share (firsts v) d) nought (drop 0 fs) ≡ summed (firsts v) d fs
 unfolding summed
 summed_start v d fs = refl
 
 -- ---- the target by its cases; the base exponents of the empty list are all zero
-none_base : (bs : List (ℕ → Exponent)) → base bs [] ≡ given (list.map (λ b. nought) bs)
+none_base : (bs : List (ℕ → Exponent)) → base bs [] ≡ Ok (list.map (λ b. nought) bs)
 unfolding base base_at each sum? bind
 none_base [] = refl
 none_base (b ∷ bs) = ap (apply (λ m. nought ∷ m)) (none_base bs)
@@ -160,12 +149,12 @@ none_scalar (b ∷ bs) = none_scalar bs
 
 module _ {A : Type 0} (R : Rules A) where
   abbrev otherwise : List Factor → Outcome (List Factor)
-  otherwise [] = given []
+  otherwise [] = Ok []
   otherwise (f ∷ l) = fitted R.lead (greatest R.is_base f l) (f ∷ l)
 
-  by_base : (l : List Factor) → target R l ≡ bind (base R.bases l) (λ x. pick (all_nought x) (given []) (otherwise l))
+  by_base : (l : List Factor) → target R l ≡ bind (base R.bases l) (λ x. pick (all_nought x) (Ok []) (otherwise l))
   unfolding target
-  by_base [] = sym (bind_given _ (none_base R.bases) ∙ ap (λ t. pick t (given []) (given [])) (none_scalar R.bases))
+  by_base [] = sym (bind_given _ (none_base R.bases) ∙ ap (λ t. pick t (Ok []) (Ok [])) (none_scalar R.bases))
   by_base (f ∷ l) = refl
 
 -- ---- as code hands it over
@@ -173,18 +162,18 @@ module _ (v : View) (n : ℕ) (fs : List Factor) where
   abbrev pub answer : Outcome (List Factor)
   answer = target (rules_by v n) fs
 
-  pub target_range : (k : ℕ) → Refuses (base (view_bases v n) fs) k → empty_but k ≡ form_of v answer
-  target_range k r = answer_refused v r (by_base (rules_by v n) fs ∙ bind_refused _ r.is)
+  pub target_range : (r : Refusal) → base (view_bases v n) fs ≡ Err r → ◌≡◌ {A = Outcome Items} (Err r) (form_of v answer)
+  target_range r e = answer_refused v r (by_base (rules_by v n) fs ∙ bind_refused _ e)
 
-  module _ (xs x : List Exponent) (b : base (view_bases v n) fs ≡ given xs) (at : x ≡ pack_exps xs) where
+  module _ (xs x : List Exponent) (b : base (view_bases v n) fs ≡ Ok xs) (at : x ≡ pack_exps xs) where
     zeros : all_nought x ≡ all_nought xs
     zeros = ap all_nought at ∙ packed-nought xs
 
-    decided : answer ≡ pick (all_nought x) (given []) (otherwise (rules_by v n) fs)
-    decided = by_base (rules_by v n) fs ∙ bind_given _ b ∙ ap (λ t. pick t (given []) (otherwise (rules_by v n) fs)) (sym zeros)
+    decided : answer ≡ pick (all_nought x) (Ok []) (otherwise (rules_by v n) fs)
+    decided = by_base (rules_by v n) fs ∙ bind_given _ b ∙ ap (λ t. pick t (Ok []) (otherwise (rules_by v n) fs)) (sym zeros)
 
-    pub target_scalar : all_nought x ≡ true → empty_but 0 ≡ form_of v answer
-    target_scalar h = answer_none v (decided ∙ ap (λ t. pick t (given []) (otherwise (rules_by v n) fs)) h)
+    pub target_scalar : all_nought x ≡ true → (l : Items) → l ≡ packed [] → ◌≡◌ {A = Outcome Items} (Ok l) (form_of v answer)
+    target_scalar h l e = answer_none v l e (decided ∙ ap (λ t. pick t (Ok []) (otherwise (rules_by v n) fs)) h)
 
 -- a group that isn't scalar: `it` is its representative's item, d its first base exponent, s the summed exponents
 pub record Choice (v : View) (n : ℕ) (fs : List Factor) (it : Item) : Type 0 where
@@ -192,32 +181,30 @@ pub record Choice (v : View) (n : ℕ) (fs : List Factor) (it : Item) : Type 0 w
   pub answers : answer v n fs ≡ fitted (firsts v) factor fs
   pub is : it ≡ item_of v factor
 
-pub chosen : (v : View) (n : ℕ) (l : Items) (fs : List Factor) → l ≡ pack_items v fs → (xs x : List Exponent) → base (view_bases v n) fs ≡ given xs → x ≡ pack_exps xs → all_nought x ≡ false
+pub chosen : (v : View) (n : ℕ) (l : Items) (fs : List Factor) → l ≡ pack_items v fs → (xs x : List Exponent) → base (view_bases v n) fs ≡ Ok xs → x ≡ pack_exps xs → all_nought x ≡ false
     → (p : ℕ) → ((f : Factor) (gs : List Factor) → fs ≡ f ∷ gs → (p < length (f ∷ gs)) × (get_or (f ∷ gs) p f ≡ greatest v.base f gs)) → Choice v n fs (get_or l.at p nil_item)
 chosen v n l [] e xs x b at z p rep = absurd (true≢false (sym (zeros v n [] xs x b at ∙ ap all_nought (one_answer (sym b ∙ none_base (view_bases v n))) ∙ none_scalar (view_bases v n)) ∙ z))
 chosen v n l (f ∷ gs) e xs x b at z p rep =
     let r = rep f gs refl in
     record {
       factor = greatest v.base f gs;
-      answers = decided v n (f ∷ gs) xs x b at ∙ ap (λ t. pick t (given []) (fitted (firsts v) (greatest v.base f gs) (f ∷ gs))) z;
+      answers = decided v n (f ∷ gs) xs x b at ∙ ap (λ t. pick t (Ok []) (fitted (firsts v) (greatest v.base f gs) (f ∷ gs))) z;
       is = item_at v l (f ∷ gs) e p nil_item f r.0 ∙ ap (item_of v) r.1;
     }
 
-module _ (v : View) (n : ℕ) (fs : List Factor) (it : Item) (k : Choice v n fs it) (d : Exponent) (head : d ≡ firsts v it.factor.row) (s : Fraction) (sum : s ≡ fraction_of (summed (firsts v) d fs)) where
+module _ (v : View) (n : ℕ) (fs : List Factor) (it : Item) (k : Choice v n fs it) (d : Exponent) (head : d ≡ firsts v it.factor.row) where
   abbrev total : Outcome Exponent
   total = summed (firsts v) (firsts v k.factor.row) fs
 
-  of-factor : s ≡ fraction_of total
-  of-factor = sum ∙ ap (λ d. fraction_of (summed (firsts v) d fs)) (head ∙ ap (λ (it : Item). firsts v it.factor.row) k.is)
+  of-factor : summed (firsts v) d fs ≡ total
+  of-factor = ap (λ d. summed (firsts v) d fs) (head ∙ ap (λ (it : Item). firsts v it.factor.row) k.is)
 
-  pub fitted_off : (m : ℕ) → s ≡ Refused m → empty_but m ≡ form_of v (answer v n fs)
+  pub fitted_off : (r : Refusal) → Err r ≡ summed (firsts v) d fs → ◌≡◌ {A = Outcome Items} (Err r) (form_of v (answer v n fs))
   unfolding fitted
-  fitted_off m q =
-      let r = refused_refuses total m (sym of-factor ∙ q) in
-      answer_refused v r (k.answers ∙ ap (apply (λ e. of (atom k.factor) e ∷ [])) r.is)
+  fitted_off r q = answer_refused v r (k.answers ∙ ap (apply (λ e. of (atom k.factor) e ∷ [])) (sym of-factor ∙ sym q))
 
-  pub fitted_on : (t : Exponent) → s ≡ Exact t → (y : Item) → y ≡ with_factor it (of (atom it.factor) t) → (m : Items) → m ≡ packed (y ∷ []) → ◌≡◌ {A = Form} (record { list = m; refusal = 0 }) (form_of v (answer v n fs))
+  pub fitted_on : (t : Exponent) → Ok t ≡ summed (firsts v) d fs → (y : Item) → y ≡ with_factor it (of (atom it.factor) t) → (m : Items) → m ≡ packed (y ∷ []) → ◌≡◌ {A = Outcome Items} (Ok m) (form_of v (answer v n fs))
   unfolding fitted
   fitted_on t q y a m b =
       answer_one v m y (of (atom k.factor) t) b (a ∙ ap (λ (it : Item). with_factor it (of (atom it.factor) t)) k.is)
-      (k.answers ∙ ap (apply (λ e. of (atom k.factor) e ∷ [])) (exact_given total t (sym of-factor ∙ q)))
+      (k.answers ∙ ap (apply (λ e. of (atom k.factor) e ∷ [])) (sym of-factor ∙ sym q))

@@ -1,6 +1,6 @@
 -- Groups as the code finds them: a list's first group and what stands behind it, the greatest of a group, and items put one by one into a list.
 use mathlib.Core.Path.{◌≡◌, refl, sym, ◌∙◌, ap, ap₂}
-use mathlib.Core.Bool.{Bool, true, false, not, ◌&&◌, ◌||◌}
+use mathlib.Core.Bool.{Bool, true, false}
 use mathlib.Core.List.{List, [], ◌∷◌, ◌++◌, append_assoc, append-nil}
 use Prim.Native.Nat.{ℕ, zero, suc, ◌+◌, ◌-◌, ◌≤◌, ◌<◌}
 use native.Mathlib.Numerals.{add-one}
@@ -9,7 +9,6 @@ use borrow.Author.Tests.{eq-eqb, ne_eqb}
 use lib.Dec.{eqb}
 use lib.ListN.{length, take, drop, get_or, set, length-append, length-drop, drop_of_length-le}
 use lib.Seq.{take-suc, length-take-le}
-use Rattle.exponents.specs.Fractions.{less}
 use Rattle.units.specs.declared.Factor.{Factor}
 use Rattle.units.specs.Lists.{no_factor, factor_fault}
 use Rattle.exponents.specs.Words.{pick, All}
@@ -203,20 +202,6 @@ module _ (v : View) (fs : List Factor) (c : Items) (e : c ≡ pack_items v fs) (
   class_other n = ne_eqb _ _ (λ q. n (class_read i h ∙ q ∙ sym (class_read j k)))
 
 -- ---- the greatest
-
--- what code works out of two items
-module _ (v : View) (f g : Factor) (x y : Item) (p : x ≡ item_of v f) (q : y ≡ item_of v g) (l : Bool) (is : l ≡ less y.factor.exponent x.factor.exponent) where
-  above_read : {t : Bool} → x.base ≡ t → above v.base f g ≡ pick t (not y.base || l) (not y.base && l)
-  unfolding above
-  above_read e =
-      sym (ap₂ (λ (x y : Item). pick x.base (not y.base || less y.factor.exponent x.factor.exponent) (not y.base && less y.factor.exponent x.factor.exponent)) p q)
-      ∙ ap₂ (λ t l. pick t (not y.base || l) (not y.base && l)) e (sym is)
-
-  pub above-base : x.base ≡ true → (not y.base || l) ≡ above v.base f g
-  above-base e = sym (above_read e)
-
-  pub above_derived : x.base ≡ false → (not y.base && l) ≡ above v.base f g
-  above_derived e = sym (above_read e)
 
 -- what holds of each holds of the greatest
 pub greatest_all : (P : Factor → Type 0) (base : ℕ → Bool) (f : Factor) (l : List Factor) → P f → All P l → P (greatest base f l)

@@ -5,7 +5,7 @@ use mathlib.Core.List.{List, [], ◌∷◌}
 use Prim.Native.Nat.{ℕ}
 use lib.Dec.{eqb, ltb}
 use lib.ListN.{length, get_or}
-use Rattle.exponents.specs.Outcome.{Outcome, given, bind, each}
+use Rattle.exponents.specs.Outcome.{Outcome, Ok, bind, each}
 use Rattle.exponents.specs.Fractions.{nought, unit, same, faulty, ranged, mul?, div?}
 use Rattle.exponents.specs.declared.Exponent.{Exponent}
 use Rattle.exponents.proofs.Equality.{and_left, and_right}
@@ -34,9 +34,9 @@ abbrev pub alone : Factor → Exponent → List Factor
 alone f e = of (atom f) e ∷ []
 
 -- ---- the products of a factor's base exponents by q
-module _ (W : Value) (D : Division W) (c : List Factor) (f : Factor) (q : Exponent) (once : mul? q unit ≡ given q) where
+module _ (W : Value) (D : Division W) (c : List Factor) (f : Factor) (q : Exponent) (once : mul? q unit ≡ Ok q) where
   -- at one base row: x is the list's, y the factor's at exponent 1, and the product is x
-  at_base : (b : ℕ → Exponent) (x y z : Exponent) → Exactly W c b x → Exactly W (alone f unit) b y → mul? y q ≡ given z → same z x ≡ true → exact W c b ≡ exact W (alone f q) b
+  at_base : (b : ℕ → Exponent) (x y z : Exponent) → Exactly W c b x → Exactly W (alone f unit) b y → mul? y q ≡ Ok z → same z x ≡ true → exact W c b ≡ exact W (alone f q) b
   unfolding exact total
   at_base b x y z p r m s =
       p.is
@@ -47,7 +47,7 @@ module _ (W : Value) (D : Division W) (c : List Factor) (f : Factor) (q : Expone
       ∙ sym (take_out (W.mul?-act q unit) once (worth W (b f.row)))
       ∙ sym (W.add-zero _)
 
-  agrees : {bs : List (ℕ → Exponent)} {xs ys zs : List Exponent} → Along (Exactly W c) bs xs → Along (Exactly W (alone f unit)) bs ys → Along (λ y z. mul? y q ≡ given z) ys zs → same_all zs xs ≡ true → Agree W bs c (alone f q)
+  agrees : {bs : List (ℕ → Exponent)} {xs ys zs : List Exponent} → Along (Exactly W c) bs xs → Along (Exactly W (alone f unit)) bs ys → Along (λ y z. mul? y q ≡ Ok z) ys zs → same_all zs xs ≡ true → Agree W bs c (alone f q)
   unfolding same_all
   agrees done done done e = tt
   agrees (next {b = x} {m = xs} p ps) (next r rs) (next {b = z} {m = zs} m ms) e =
@@ -63,15 +63,15 @@ module _ (bs : List (ℕ → Exponent)) (c : List Factor) where
   Multiplies f (times q) = Agrees (alone f q)
   Multiplies f none = Unit {0}
 
-  module _ (f : Factor) (xs ys : List Exponent) (p : base bs c ≡ given xs) (r : base bs (alone f unit) ≡ given ys) where
-    once : (q : Exponent) → faulty q ≡ false → mul? q unit ≡ given q
+  module _ (f : Factor) (xs ys : List Exponent) (p : base bs c ≡ Ok xs) (r : base bs (alone f unit) ≡ Ok ys) where
+    once : (q : Exponent) → faulty q ≡ false → mul? q unit ≡ Ok q
     once q h = let s = sound q h in ap ranged (mul-unit s.1) ∙ ranged_given q s.0
 
     fits_agrees : (q : Exponent) → faulty q ≡ false → Holds (Multiplies f) (fits xs ys q)
     unfolding fits
     fits_agrees q h = holds_map _ (holds_eq _) λ zs e. go zs e (same_all zs xs) refl
       where
-        go : (zs : List Exponent) → each (λ y. mul? y q) ys ≡ given zs → (t : Bool) → same_all zs xs ≡ t → Multiplies f (pick t (times q) none)
+        go : (zs : List Exponent) → each (λ y. mul? y q) ys ≡ Ok zs → (t : Bool) → same_all zs xs ≡ t → Multiplies f (pick t (times q) none)
         go zs e true s = agrees value division c f q (once q h) (take_out (base_exact value bs c) p) (take_out (base_exact value bs (alone f unit)) r) (take_out (each_holds (λ y. mul? y q) (λ y. holds_eq (mul? y q)) ys) e) s
         go zs e false s = tt
 
@@ -79,7 +79,7 @@ module _ (bs : List (ℕ → Exponent)) (c : List Factor) where
     unfolding multiple_of
     multiple_agrees = go (same_all xs ys) refl
       where
-        go : (t : Bool) → same_all xs ys ≡ t → Holds (Multiplies f) (pick t (given (times unit)) (pick (all_nought xs || same (get_or ys (first_base xs) nought) nought) (given none)
+        go : (t : Bool) → same_all xs ys ≡ t → Holds (Multiplies f) (pick t (Ok (times unit)) (pick (all_nought xs || same (get_or ys (first_base xs) nought) nought) (Ok none)
             (bind (div? (get_or xs (first_base xs) nought) (get_or ys (first_base xs) nought)) (fits xs ys))))
         go true e = held {a = times unit} ((base_decides value bs c (alone f unit) xs ys p r).yea e)
         go false e = pick_is (Holds (Multiplies f)) (all_nought xs || same (get_or ys (first_base xs) nought) nought) (held {a = none} tt) (holds_bind _ (holds_eq (div? (get_or xs (first_base xs) nought) (get_or ys (first_base xs) nought))) λ q d. fits_agrees q (quotient_sound _ _ q d))

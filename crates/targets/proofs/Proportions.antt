@@ -7,7 +7,7 @@ use Prim.Native.Nat.{ℕ, zero, suc, ◌<◌}
 use native.Mathlib.Omega.{arith}
 use lib.IntN.{ℤ}
 use lib.ListN.{length, get_or}
-use Rattle.exponents.specs.Outcome.{given}
+use Rattle.exponents.specs.Outcome.{Ok}
 use Rattle.exponents.specs.Fractions.{nought, sum?}
 use Rattle.exponents.specs.declared.Exponent.{Exponent}
 use Rattle.exponents.proofs.Exact.{Low}
@@ -64,11 +64,11 @@ module _ (W : Value) (D : Division W) (first : ℕ → Exponent) (r : Factor) (s
         holds_imp (sum_is t l h.1) λ e he.
         he ∙ ap (λ x. W.add x (exact W l b)) (ht _ ∙ ap (W.add _) hq) ∙ W.add_assoc _ _ _
 
-    fitted_exact : (l : List Factor) (e : Exponent) → All (Like b) l → summed first (first r.row) l ≡ given e → exact W l b ≡ exact W (of (atom r) e ∷ []) b
+    fitted_exact : (l : List Factor) (e : Exponent) → All (Like b) l → summed first (first r.row) l ≡ Ok e → exact W l b ≡ exact W (of (atom r) e ∷ []) b
     unfolding summed exact total
     fitted_exact l e h q = sym (W.add-zero _ ∙ take_out (sum_is nought l h) q ∙ rw (W.nil_act, zero-add W))
 
-  fitted_agrees : (bs : List (ℕ → Exponent)) (l : List Factor) (e : Exponent) → All (λ b. All (Like b) l) bs → summed first (first r.row) l ≡ given e → Agree W bs l (of (atom r) e ∷ [])
+  fitted_agrees : (bs : List (ℕ → Exponent)) (l : List Factor) (e : Exponent) → All (λ b. All (Like b) l) bs → summed first (first r.row) l ≡ Ok e → Agree W bs l (of (atom r) e ∷ [])
   fitted_agrees [] l e h q = tt
   fitted_agrees (b ∷ bs) l e h q = (fitted_exact b l e h.0 q, fitted_agrees bs l e h.1 q)
 
@@ -86,7 +86,7 @@ module _ (W : Value) (D : Division W) {A : Type 0} (R : Rules A) (P : ℕ → Ty
   likes r p [] l h k = tt
   likes r p (b ∷ cs) l h k = (all_imp l (λ f q. (h f q).0) k, likes r p cs l (λ f q. (h f q).1) k)
 
-  scalar_or : (t : Bool) (g : List Factor) (r : Factor) → Of r → All Of g → (t ≡ true → Agree W R.bases g []) → Holds (λ m. Agree W R.bases g m) (pick t (given []) (fitted R.lead r g))
+  scalar_or : (t : Bool) (g : List Factor) (r : Factor) → Of r → All Of g → (t ≡ true → Agree W R.bases g []) → Holds (λ m. Agree W R.bases g m) (pick t (Ok []) (fitted R.lead r g))
   scalar_or true g r p h s = held (s refl)
   scalar_or false g r p h s = fitted_keeps W D R.lead r (some r.row p) R.bases g (likes r p R.bases g (λ f q. like r.row f.row p q) h)
 

@@ -7,7 +7,7 @@ use native.Mathlib.Omega.{arith}
 use borrow.Author.Tests.{ltb-true}
 use lib.Dec.{eqb, ltb}
 use lib.ListN.{length, get_or}
-use Rattle.exponents.specs.Outcome.{Outcome, given, each}
+use Rattle.exponents.specs.Outcome.{Outcome, Ok, each}
 use Rattle.exponents.specs.Fractions.{nought, unit, same, faulty, mul?, div?}
 use Rattle.exponents.specs.declared.Exponent.{Exponent}
 use Rattle.exponents.proofs.Holds.{holds_all, Holds, held, take_out, holds_by, holds_any, holds_imp, holds_map, holds_bind}
@@ -98,7 +98,7 @@ module _ (Q : Factor → Type 0) where
       unfolding single
       single_within c h = go (ltb 1 (length c)) refl
         where
-          go : (t : Bool) → ltb 1 (length c) ≡ t → Holds (Within (length c)) (pick t (search bs c c) (given []))
+          go : (t : Bool) → ltb 1 (length c) ≡ t → Holds (Within (length c)) (pick t (search bs c c) (Ok []))
           go true e = holds_imp (search_within c c h) λ m k. (omega (arith, ltb-true 1 (length c) e, k.0), k.1)
           go false e = held (none_within (length c))
 
@@ -117,14 +117,14 @@ module _ (Q : Factor → Type 0) where
 
 -- ---- so they are resolved where the list is
 module _ {v : View} {l : Items} {fs : List Factor} (r : Resolved v l fs) where
-  resolved : {o : Outcome (List Factor)} → ((Q : Factor → Type 0) → ((f : Factor) (e : Exponent) → Q f → faulty e ≡ false → Q (of (atom f) e)) → All Q fs → Holds (Within Q 1) o) → (m : List Factor) → o ≡ given m → (x : Items) → x ≡ pack_items v m → Resolved v x m
+  resolved : {o : Outcome (List Factor)} → ((Q : Factor → Type 0) → ((f : Factor) (e : Exponent) → Q f → faulty e ≡ false → Q (of (atom f) e)) → All Q fs → Holds (Within Q 1) o) → (m : List Factor) → o ≡ Ok m → (x : Items) → x ≡ pack_items v m → Resolved v x m
   resolved within m e x is =
       let k = take_out (within Kept kept_with (each_faultless factor_fault fs r.shaped)) e in
       let s = take_out (within (λ f. Stands f.row v.among) (λ f e p q. p) r.named) e in
       record { is = is; short = omega (arith, k.0); shaped = none_faulty factor_fault m k.1; named = s.1; placed = r.placed }
 
-  pub search_resolved : (bs : List (ℕ → Exponent)) (m : List Factor) → search bs fs fs ≡ given m → (x : Items) → x ≡ pack_items v m → Resolved v x m
+  pub search_resolved : (bs : List (ℕ → Exponent)) (m : List Factor) → search bs fs fs ≡ Ok m → (x : Items) → x ≡ pack_items v m → Resolved v x m
   search_resolved bs = resolved (λ Q stays h. search_within Q stays bs fs fs h)
 
-  pub target_resolved : {A : Type 0} (R : Rules A) (m : List Factor) → target R fs ≡ given m → (x : Items) → x ≡ pack_items v m → Resolved v x m
+  pub target_resolved : {A : Type 0} (R : Rules A) (m : List Factor) → target R fs ≡ Ok m → (x : Items) → x ≡ pack_items v m → Resolved v x m
   target_resolved R = resolved (λ Q stays h. target_within Q stays R fs h)

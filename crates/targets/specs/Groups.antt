@@ -1,7 +1,7 @@
 -- Factors grouped by key, and a group's target (01, "Simplification", third step).
 use Rattle.std.specs.Prelude.{Bool, not, ◌&&◌, ◌||◌, List, [], ◌∷◌, ℕ}
 use Rattle.exponents.specs.Words.{pick}
-use Rattle.exponents.specs.Outcome.{Outcome, given, apply, bind}
+use Rattle.exponents.specs.Outcome.{Outcome, Ok, apply, bind}
 use Rattle.exponents.specs.Fractions.{nought, less, mul?, div?, sum?}
 use Rattle.exponents.specs.declared.Exponent.{Exponent}
 use Rattle.units.specs.declared.Factor.{Factor}
@@ -55,5 +55,5 @@ module _ (first : ℕ → Exponent) where
 
 -- a group with scalar base becomes scalar
 unfoldable pub target : {A : Type 0} → Rules A → List Factor → Outcome (List Factor)
-target R [] = given []
-target R (f ∷ l) = bind (base R.bases (f ∷ l)) (λ x. pick (all_nought x) (given []) (fitted R.lead (greatest R.is_base f l) (f ∷ l)))
+target R [] = Ok []
+target R (f ∷ l) = bind (base R.bases (f ∷ l)) (λ x. pick (all_nought x) (Ok []) (fitted R.lead (greatest R.is_base f l) (f ∷ l)))

@@ -1,5 +1,5 @@
--- How code finds a group, and reads a row's first base exponent.
-use Rattle.std.specs.Prelude.{Bool, List, [], ◌∷◌, map, ℕ, ℤ}
+-- How code finds a factor or a group, and reads a row's first base exponent.
+use Rattle.std.specs.Prelude.{Bool, List, [], ◌∷◌, map, ℕ, ℤ, Option, Some, None}
 use Rattle.exponents.specs.Words.{pick}
 use Rattle.exponents.specs.Outcome.{Outcome, bind}
 use Rattle.exponents.specs.Fractions.{add?}
@@ -8,7 +8,13 @@ use Rattle.units.specs.declared.Factor.{Factor}
 use Rattle.keys.specs.Key.{first}
 use Rattle.tables.specs.Rows.{places}
 use Rattle.tables.specs.Held.{told}
+use Rattle.tables.specs.declared.Item.{Item}
 use Rattle.targets.specs.Groups.{share}
+
+-- one item, if it was found
+abbrev pub listed : Option Item → List Item
+listed None = []
+listed (Some x) = x ∷ []
 
 module _ (alike : ℕ → ℕ → Bool) where
   -- what stands behind f in its group ..

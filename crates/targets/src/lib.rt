@@ -8,7 +8,6 @@ ghost use Rattle.canonical.specs.Held.{with_factor};
 
 use exponents::Exponent;
 use tables::Item;
-use units::Factor;
 
 pub mod single; // one factor that all others are a whole power of
 pub mod groups; // factors of one key
@@ -17,12 +16,7 @@ pub mod groups; // factors of one key
 pub fn at_exponent(it: Item, e: Exponent) -> Item
     ensures { result ≡ with_factor it (of (atom it.factor) e) }
 {
-    let f = it.factor;
-    let p = f.prefix;
-    let g = Factor {
-        row: f.row,
-        prefix: p,
-        exponent: e,
-    };
-    canonical::form::with_factor(it, g)
+    let mut z = it;
+    z.factor.exponent = e;
+    z
 }

@@ -1,44 +1,54 @@
 -- What the check of a list tells, and calls that go on after it.
-use mathlib.Core.Path.{◌≡◌, refl, sym, ap, ◌∙◌}
-use mathlib.Core.Bool.{Bool, true, false, cond, ◌||◌}
+use mathlib.Core.Path.{◌≡◌, refl, sym, ap, ap₂, ◌∙◌}
+use mathlib.Core.Bool.{Bool, true, false, ◌||◌}
 use mathlib.Core.List.{List, ◌++◌}
-use Prim.Native.Nat.{ℕ, zero, suc, ◌+◌, ◌≤◌, ◌<◌}
-use native.Mathlib.Omega.{arith}
+use Prim.Native.Nat.{ℕ, ◌+◌, ◌≤◌, ◌<◌}
 use lib.Dec.{ltb}
 use lib.ListN.{length}
 use borrow.Author.Tests.{lt-ltb, le-ltb, ltb-false}
-use Rattle.exponents.specs.Outcome.{Refusal, SHAPE, UNKNOWN, number, Outcome, given, unless, apply, bind, refusal_of}
-use Rattle.exponents.proofs.Holds.{bind_given, bind_refused}
+use Rattle.exponents.specs.Outcome.{SHAPE, UNKNOWN, ROOM, Outcome, Ok, Err, unless, apply, bind, tested}
 use Rattle.exponents.proofs.InRange.{or_left, or_right}
-use Rattle.exponents.proofs.Numbers.{refuses, unless_passed, refusal_map}
+use Rattle.exponents.proofs.Holds.{one_answer}
+use Rattle.exponents.proofs.Numbers.{unless_passed, clash}
 use Rattle.units.specs.declared.Factor.{Factor}
 use Rattle.units.specs.declared.Factors.{Factors}
-use Rattle.units.specs.Lists.{list_of, pack, refused_by, made_of, factor_fault, some, unknown, checked, both, joined}
+use Rattle.units.specs.Lists.{list_of, pack, made_of, factor_fault, some, unknown, checked, both, joined}
 
-or_true : (b : Bool) → (b || true) ≡ true
-or_true true = refl
-or_true false = refl
+-- ---- an outcome that answers nothing but a, and a call that goes on after it
+module _ {A : Type 0} (o : Outcome A) (a : A) (h : o ≡ apply (λ _. a) (tested o)) where
+  then_by : {B : Type 0} (f : A → Outcome B) → bind o f ≡ bind (tested o) (λ _. f a)
+  unfolding bind
+  then_by f = go o h
+    where
+      go : (o : Outcome A) → o ≡ apply (λ _. a) (tested o) → bind o f ≡ bind (tested o) (λ _. f a)
+      go (Ok b) h = ap f (one_answer h)
+      go (Err r) h = refl
 
+-- ---- what callers learn
 module _ (rows : ℕ) (l : Factors) where
-  -- ---- how the code ends
-  pub too_long : 16 < l.len → 2 ≡ refusal_of (checked rows l)
+  -- a list that passes is answered as it is
+  pub checked_is : checked rows l ≡ apply (λ _. list_of l) (tested (checked rows l))
   unfolding checked unless
-  too_long h = rw (lt-ltb 16 l.len h)
+  checked_is = go (ltb 16 l.len || some factor_fault (list_of l)) (some (unknown rows) (list_of l))
+    where
+      test : Bool → Bool → Outcome (List Factor)
+      test s u = unless s SHAPE (unless u UNKNOWN (Ok (list_of l)))
 
-  pub bad_shape : true ≡ some factor_fault (list_of l) → 2 ≡ refusal_of (checked rows l)
-  unfolding checked unless
-  bad_shape h = rw (← h, or_true)
+      go : (s u : Bool) → test s u ≡ apply (λ _. list_of l) (tested (test s u))
+      go true u = refl
+      go false true = refl
+      go false false = refl
 
-  pub shaped : (t : Bool) → l.len ≤ 16 → false ≡ some factor_fault (list_of l) → t ≡ some (unknown rows) (list_of l) → cond t 3 0 ≡ refusal_of (checked rows l)
-  unfolding checked unless
-  shaped true h f e = rw (le-ltb 16 l.len h, ← f, ← e)
-  shaped false h f e = rw (le-ltb 16 l.len h, ← f, ← e)
+  pub checked_then : {B : Type 0} (f : List Factor → Outcome B) → bind (checked rows l) f ≡ bind (tested (checked rows l)) (λ _. f (list_of l))
+  checked_then f = then_by (checked rows l) (list_of l) checked_is f
 
-  -- ---- what callers learn
-  module _ (h : refusal_of (checked rows l) ≡ 0) where
+  module _ {u : Unit {0}} (h : Ok u ≡ tested (checked rows l)) where
+    pub passes : checked rows l ≡ Ok (list_of l)
+    passes = checked_is ∙ ap (apply (λ _. list_of l)) (sym h)
+
     no_shape : (ltb 16 l.len || some factor_fault (list_of l)) ≡ false
     unfolding checked
-    no_shape = unless_passed _ SHAPE _ h
+    no_shape = unless_passed _ SHAPE _ (list_of l) passes
 
     pub short : l.len ≤ 16
     short = ltb-false 16 l.len (or_left (ltb 16 l.len) (some factor_fault (list_of l)) no_shape)
@@ -46,67 +56,55 @@ module _ (rows : ℕ) (l : Factors) where
     pub no_fault : some factor_fault (list_of l) ≡ false
     no_fault = or_right (ltb 16 l.len) (some factor_fault (list_of l)) no_shape
 
-    pub passes : checked rows l ≡ given (list_of l)
-    unfolding checked unless
-    passes = go (ltb 16 l.len || some factor_fault (list_of l)) (some (unknown rows) (list_of l)) h
-      where
-        go : (s u : Bool) → refusal_of (unless s SHAPE (unless u UNKNOWN (given (list_of l)))) ≡ 0 → unless s SHAPE (unless u UNKNOWN (given (list_of l))) ≡ given (list_of l)
-        go true u q = absurd (omega arith)
-        go false true q = absurd (omega arith)
-        go false false q = refl
-
 -- ---- two lists
+abbrev pair_up : {A B : Type 0} → Outcome A → Outcome B → Outcome (A × B)
+pair_up p q = bind p (λ a. apply (λ b. (a, b)) q)
+
+paired : {A B : Type 0} (p : Outcome A) (q : Outcome B) (a : A) (b : B) → p ≡ apply (λ _. a) (tested p) → q ≡ apply (λ _. b) (tested q) → pair_up p q ≡ apply (λ _. (a, b)) (tested (pair_up p q))
+unfolding bind
+paired (Ok x) (Ok y) a b h k = ap₂ (λ s t. Ok (s, t)) (one_answer h) (one_answer k)
+paired (Ok x) (Err r) a b h k = refl
+paired (Err r) q a b h k = refl
+
+paired_tested : {A B : Type 0} (p : Outcome A) (q : Outcome B) → tested (pair_up p q) ≡ bind (tested p) (λ _. tested q)
+unfolding bind
+paired_tested (Ok x) (Ok y) = refl
+paired_tested (Ok x) (Err r) = refl
+paired_tested (Err r) q = refl
+
 module _ (rows : ℕ) (a b : Factors) where
-  first_refused : {A B : Type 0} (o : Outcome A) (f : A → Outcome B) (n : ℕ) → n ≡ refusal_of o → (n ≡ 0 → ⊥) → n ≡ refusal_of (bind o f)
-  first_refused o f n e h = let r = refuses o n e h in sym r.numbered ∙ sym (ap refusal_of (bind_refused f r.is))
-
-  pub first_fault : (n : ℕ) → n ≡ refusal_of (checked rows a) → (n ≡ 0 → ⊥) → n ≡ refusal_of (both rows a b)
+  pub both_tested : tested (both rows a b) ≡ bind (tested (checked rows a)) (λ _. tested (checked rows b))
   unfolding both
-  first_fault n e h = first_refused (checked rows a) _ n e h
+  both_tested = paired_tested (checked rows a) (checked rows b)
 
-  pub second_fault : refusal_of (checked rows a) ≡ 0 → refusal_of (checked rows b) ≡ refusal_of (both rows a b)
+  both_is : both rows a b ≡ apply (λ _. (list_of a, list_of b)) (tested (both rows a b))
   unfolding both
-  second_fault h = sym (ap refusal_of (bind_given _ (passes rows a h)) ∙ refusal_map _ (checked rows b))
+  both_is = paired (checked rows a) (checked rows b) (list_of a) (list_of b) (checked_is rows a) (checked_is rows b)
 
-  module _ (h : refusal_of (both rows a b) ≡ 0) where
-    pub first_passed : refusal_of (checked rows a) ≡ 0
-    first_passed = go (refusal_of (checked rows a)) refl
-      where
-        go : (n : ℕ) → refusal_of (checked rows a) ≡ n → n ≡ 0
-        go zero e = refl
-        go (suc n) e = absurd (omega (arith, first_fault (suc n) (sym e) (λ z. omega arith)))
+  pub both_then : {B : Type 0} (f : List Factor × List Factor → Outcome B) → bind (both rows a b) f ≡ bind (tested (both rows a b)) (λ _. f (list_of a, list_of b))
+  both_then f = then_by (both rows a b) (list_of a, list_of b) both_is f
 
-    pub second_passed : refusal_of (checked rows b) ≡ 0
-    second_passed = second_fault first_passed ∙ h
+  module _ {u : Unit {0}} (h : Ok u ≡ tested (both rows a b)) where
+    pub both_pass : both rows a b ≡ Ok (list_of a, list_of b)
+    both_pass = both_is ∙ ap (apply (λ _. (list_of a, list_of b))) (sym h)
 
-    pub both_pass : both rows a b ≡ given (list_of a, list_of b)
-    unfolding both
-    both_pass = bind_given _ (passes rows a first_passed) ∙ ap (apply _) (passes rows b second_passed)
+    split : (p q : Outcome (Unit {0})) → Ok u ≡ bind p (λ _. q) → (Ok u ≡ p) × (Ok u ≡ q)
+    unfolding bind
+    split (Ok t) q e = (refl, e)
+    split (Err r) q e = absurd (clash e)
 
--- ---- a call that goes on after an outcome o, of which it has the number n
-module _ {A : Type 0} (o : Outcome A) (f : A → Outcome (List Factor)) where
-  pub stops : (n : ℕ) → n ≡ refusal_of o → (n ≡ 0 → ⊥) → refused_by n ≡ made_of (bind o f)
-  stops n e h = let r = refuses o n e h in ap refused_by (sym r.numbered) ∙ ap made_of (sym (bind_refused f r.is))
+    pub first_passed : Ok u ≡ tested (checked rows a)
+    first_passed = (split (tested (checked rows a)) (tested (checked rows b)) (h ∙ both_tested)).0
 
-  pub goes_on : (a : A) → o ≡ given a → made_of (f a) ≡ made_of (bind o f)
-  goes_on a e = ap made_of (sym (bind_given f e))
-
--- ---- a call that looks for a fault t
-module _ (t : Bool) (r : Refusal) (o : Outcome (List Factor)) where
-  pub fault_stops : t ≡ true → refused_by (number r) ≡ made_of (unless t r o)
-  unfolding unless
-  fault_stops h = rw h
-
-  pub fault_passes : t ≡ false → made_of o ≡ made_of (unless t r o)
-  unfolding unless
-  fault_passes h = rw h
+    pub second_passed : Ok u ≡ tested (checked rows b)
+    second_passed = (split (tested (checked rows a)) (tested (checked rows b)) (h ∙ both_tested)).1
 
 -- ---- joined lists
 module _ (fs gs : List Factor) where
-  pub no_room : 16 < length fs + length gs → refused_by 4 ≡ made_of (joined fs gs)
+  pub no_room : 16 < length fs + length gs → Err ROOM ≡ made_of (joined fs gs)
   unfolding joined unless
   no_room h = rw (lt-ltb 16 (length fs + length gs) h)
 
-  pub room : length fs + length gs ≤ 16 → record { unit = pack (fs ++ gs); refusal = 0 } ≡ made_of (joined fs gs)
+  pub room : length fs + length gs ≤ 16 → Ok (pack (fs ++ gs)) ≡ made_of (joined fs gs)
   unfolding joined unless
   room h = rw (le-ltb 16 (length fs + length gs) h)

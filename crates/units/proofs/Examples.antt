@@ -5,7 +5,7 @@ use Prim.Native.Nat.{ℕ}
 use lib.IntN.{ℤ, pos, negsuc}
 use lib.ListN.{replicate}
 use lib.Ieee.{binary64, to_bits, of_bits, mul, div}
-use Rattle.exponents.specs.Outcome.{Outcome, given, refused, SHAPE, UNKNOWN, ROOM, RANGE, each, apply}
+use Rattle.exponents.specs.Outcome.{Outcome, Ok, Err, SHAPE, UNKNOWN, ROOM, RANGE, each, apply}
 use Rattle.exponents.specs.Held.{worked}
 use Rattle.floats.specs.Power.{power, raise, bits_of}
 use Rattle.units.specs.declared.Prefix.{Prefix}
@@ -21,15 +21,15 @@ bits_at p = apply (to_bits binary64) (prefix_factor p)
 
 prefixes_known :
     map bits_at (Metric (pos 0) ∷ Binary (pos 0) ∷ Metric (pos 3) ∷ Binary (pos 10) ∷ Metric (negsuc 23) ∷ Metric (pos 1100) ∷ Metric (negsuc 1099) ∷ Metric (pos 1101) ∷ Binary (negsuc 1100) ∷ [])
-    ≡ given 0x3ff0_0000_0000_0000
-    ∷ given 0x3ff0_0000_0000_0000
-    ∷ given 0x408f_4000_0000_0000
-    ∷ given 0x4090_0000_0000_0000
-    ∷ given 0x3af3_57c2_99a8_8ea8
-    ∷ given 0x7ff0_0000_0000_0000
-    ∷ given 0
-    ∷ refused SHAPE
-    ∷ refused SHAPE
+    ≡ Ok 0x3ff0_0000_0000_0000
+    ∷ Ok 0x3ff0_0000_0000_0000
+    ∷ Ok 0x408f_4000_0000_0000
+    ∷ Ok 0x4090_0000_0000_0000
+    ∷ Ok 0x3af3_57c2_99a8_8ea8
+    ∷ Ok 0x7ff0_0000_0000_0000
+    ∷ Ok 0
+    ∷ Err SHAPE
+    ∷ Err SHAPE
     ∷ []
 unfolding prefix_factor worked power raise bits_of mul div to_bits of_bits
 prefixes_known = refl
@@ -50,18 +50,18 @@ Row = Outcome (List Factor) × Outcome (List Factor)
 
 rows : List Row
 rows =
-    (checked 6 (times 16 root), given (replicate 16 root))
-    ∷ (checked 6 (times 17 root), refused SHAPE)
-    ∷ (checked 6 (times 2 (at 5 (pos 2) 4)), refused SHAPE)
-    ∷ (checked 5 (times 2 root), refused UNKNOWN)
-    ∷ (product 6 (times 8 root) (times 8 root), given (replicate 16 root))
-    ∷ (product 6 (times 8 root) (times 9 root), refused ROOM)
-    ∷ (product 5 (times 1 root) (times 17 root), refused UNKNOWN)
-    ∷ (quotient 6 (times 1 root) (times 2 root), given (root ∷ at 5 (negsuc 1) 3 ∷ at 5 (negsuc 1) 3 ∷ []))
-    ∷ (list_power 6 (times 2 root) (record { num = pos 3; den = 2 }), given (at 5 (pos 1) 1 ∷ at 5 (pos 1) 1 ∷ []))
-    ∷ (list_power 6 (times 2 root) (record { num = pos 0; den = 1 }), given (at 5 (pos 0) 1 ∷ at 5 (pos 0) 1 ∷ []))
-    ∷ (list_power 6 (times 2 root) (record { num = pos 2147483647; den = 1 }), refused RANGE)
-    ∷ (list_power 6 (times 2 root) (record { num = pos 2; den = 2 }), refused SHAPE)
+    (checked 6 (times 16 root), Ok (replicate 16 root))
+    ∷ (checked 6 (times 17 root), Err SHAPE)
+    ∷ (checked 6 (times 2 (at 5 (pos 2) 4)), Err SHAPE)
+    ∷ (checked 5 (times 2 root), Err UNKNOWN)
+    ∷ (product 6 (times 8 root) (times 8 root), Ok (replicate 16 root))
+    ∷ (product 6 (times 8 root) (times 9 root), Err ROOM)
+    ∷ (product 5 (times 1 root) (times 17 root), Err UNKNOWN)
+    ∷ (quotient 6 (times 1 root) (times 2 root), Ok (root ∷ at 5 (negsuc 1) 3 ∷ at 5 (negsuc 1) 3 ∷ []))
+    ∷ (list_power 6 (times 2 root) (record { num = pos 3; den = 2 }), Ok (at 5 (pos 1) 1 ∷ at 5 (pos 1) 1 ∷ []))
+    ∷ (list_power 6 (times 2 root) (record { num = pos 0; den = 1 }), Ok (at 5 (pos 0) 1 ∷ at 5 (pos 0) 1 ∷ []))
+    ∷ (list_power 6 (times 2 root) (record { num = pos 2147483647; den = 1 }), Err RANGE)
+    ∷ (list_power 6 (times 2 root) (record { num = pos 2; den = 2 }), Err SHAPE)
     ∷ []
 
 lists-known : map (λ (r : Row). r.0) rows ≡ map (λ (r : Row). r.1) rows

@@ -1,12 +1,15 @@
--- Laws of packed lists, and one turn of each loop over a list. Over the element, the fault or the step.
+-- Laws of packed lists, of arrays filled from the front, and of a fault looked for. Over the element, the fault or the step.
 use mathlib.Core.Path.{◌≡◌, refl, sym, ap, ap₂, ◌∙◌}
-use mathlib.Core.Bool.{Bool, true, false, ◌||◌}
+use mathlib.Core.Bool.{Bool, false, ◌||◌}
 use mathlib.Core.List.{List, [], ◌∷◌, ◌++◌, map, map-append, append_assoc}
 use Prim.Native.Nat.{ℕ, zero, suc, ◌+◌, ◌-◌, ◌≤◌, ◌<◌}
 use native.Mathlib.Omega.{arith}
 use native.Mathlib.Numerals.{add-one}
-use lib.ListN.{length, take, drop, get_or, set, replicate, length-map, length-append, drop_of_length-le}
-use lib.Seq.{set_at, take-suc, take-append_seam, length-take-le, drop-cons, get_or-take}
+use lib.ListN.{length, take, drop, get_or, set, replicate, length-map, length-append}
+use lib.Seq.{paste, set_at, take_all, take-suc, take-append_seam, drop-append-add, length-take-le, get_or-take}
+use Rattle.std.specs.List.{list_any}
+use Rattle.std.proofs.lemmas.List.{drop-replicate, length-take}
+use Rattle.std.proofs.lemmas.List.Recursion.{same_from_clauses}
 use Rattle.exponents.proofs.InRange.{or_left, or_right}
 use Rattle.units.specs.declared.Factor.{Factor}
 use Rattle.units.specs.declared.Factors.{Factors}
@@ -37,6 +40,27 @@ pub push_pack : (fs : List Factor) (f : Factor) → length fs < 16
 unfolding pack
 push_pack fs f h = ap₂ (λ (l : List Factor) (k : ℕ). record { at = l; len = k }) (stored fs no_factor f (length fs) refl h) (sym (length-append fs (f ∷ [])))
 
+-- one factor more, and a list more, behind those of a value with a clean tail
+module _ (l : Factors) (fs : List Factor) (e : l ≡ pack fs) where
+  len_is : l.len ≡ length fs
+  len_is = ap (λ (l : Factors). l.len) e ∙ len_pack fs
+
+  pub pushed : (f : Factor) → l.len < 16 → ◌≡◌ {A = Factors} (record { at = set l.at l.len f; len = l.len + 1 }) (pack (fs ++ (f ∷ [])))
+  pushed f h = rw (len_is, e) (push_pack fs f (omega (arith, len_is)))
+
+  pub appended : (gs at : List Factor) (n : ℕ) → n ≡ length gs → l.len + n ≤ 16 → at ≡ paste l.at l.len gs n → ◌≡◌ {A = Factors} (record { at = at; len = l.len + n }) (pack (fs ++ gs))
+  unfolding pack
+  appended gs at n h k q = ap₂ (λ (l : List Factor) (k : ℕ). record { at = l; len = k }) (q ∙ laid) sum
+    where
+      sum : l.len + n ≡ length (fs ++ gs)
+      sum = omega (arith, len_is, h, length-append fs gs)
+
+      tail : drop (length fs + n) (fs ++ replicate (16 - length fs) no_factor) ≡ replicate (16 - length (fs ++ gs)) no_factor
+      tail = drop-append-add fs _ n ∙ drop-replicate n (16 - length fs) no_factor ∙ ap (λ k. replicate k no_factor) (omega (arith, len_is, sum))
+
+      laid : paste l.at l.len gs n ≡ (fs ++ gs) ++ replicate (16 - length (fs ++ gs)) no_factor
+      laid = rw (e, take-append_seam fs (replicate (16 - length fs) no_factor), take_all n gs (omega arith), tail)
+
 -- an array field has its 16 elements: owning the struct tells it of the mapped list
 pub full : {B : Type 0} (f : Factor → B) (l : Factors) → length (map f l.at) ≡ 16 → length l.at ≡ 16
 full f l e = sym (length-map l.at f) ∙ e
@@ -44,44 +68,54 @@ full f l e = sym (length-map l.at f) ∙ e
 pub listed : (l : Factors) → length l.at ≡ 16 → l.len ≤ 16 → length (list_of l) ≡ l.len
 listed l e h = length-take-le l.len l.at (omega arith)
 
--- the rest of a list of factors from a place on, with the element as the code reads it
-pub rest : (l : Factors) (d : Factor) (i : ℕ) → i < length (list_of l) → i < l.len → drop i (list_of l) ≡ get_or l.at i d ∷ drop (i + 1) (list_of l)
-rest l d i h k = rw (add-one, drop-cons (list_of l) i d, get_or-take)
+-- ---- an array filled from the front, its places past that clean
+abbrev pub padded : List Factor → List Factor
+padded fs = fs ++ replicate (16 - length fs) no_factor
 
--- ---- a search for a fault: what is answered is the answer over the places from i on
-module _ (fault : Factor → Bool) (l : Factors) (sized : length (list_of l) ≡ l.len) (d : Factor) (i : ℕ)
-    (so_far : some fault (list_of l) ≡ some fault (drop i (list_of l))) where
-  step : i < l.len → some fault (list_of l) ≡ fault (get_or l.at i d) || some fault (drop (i + 1) (list_of l))
-  unfolding some
-  step h = so_far ∙ ap (some fault) (rest l d i (omega arith) h)
+pub padded_none : (o : Factors) → o ≡ pack [] → o.at ≡ padded []
+unfolding pack
+padded_none o e = ap (λ (l : Factors). l.at) e
 
-  pub fault_found : i < l.len → fault (get_or l.at i d) ≡ true → true ≡ some fault (list_of l)
-  fault_found h e = simp (step h, e)
+pub padded_more : (fs at : List Factor) (n : ℕ) (f : Factor) → length fs ≡ n → n < 16 → at ≡ padded fs → set at n f ≡ padded (fs ++ (f ∷ []))
+padded_more fs at n f h k e = rw e (stored fs no_factor f n h k)
 
-  pub fault_not : i < l.len → fault (get_or l.at i d) ≡ false → some fault (list_of l) ≡ some fault (drop (i + 1) (list_of l))
-  fault_not h e = simp (step h, e)
+pub padded_all : (fs at : List Factor) (n : ℕ) → n ≡ length fs → at ≡ padded fs → ◌≡◌ {A = Factors} (record { at = at; len = n }) (pack fs)
+unfolding pack
+padded_all fs at n h e = ap₂ (λ (l : List Factor) (k : ℕ). record { at = l; len = k }) e h
 
-  pub fault_none : l.len ≤ i → false ≡ some fault (list_of l)
-  unfolding some
-  fault_none h = simp (so_far, drop_of_length-le (list_of l) {i = i} (omega arith))
+-- the factors before i are mapped and stand in the array, the places from i on are clean
+pub record Mapped (f : Factor → Factor) (l : Factors) (at : List Factor) (i : ℕ) : Type 0 where
+  pub stands : at ≡ padded (map f (take i (list_of l)))
 
--- a fault looked for to the end: t tells of the places before i
-or_assoc : (a b c : Bool) → (a || (b || c)) ≡ ((a || b) || c)
-or_assoc true b c = refl
-or_assoc false b c = refl
+module _ (f : Factor → Factor) (l : Factors) (at : List Factor) (i : ℕ) (u : Mapped f l at i) where
+  pub mapped_more : (d g : Factor) → i < l.len → length (list_of l) ≡ l.len → i < 16 → g ≡ f (get_or l.at i d) → Mapped f l (set at i g) (i + 1)
+  mapped_more d g h sized k e = record { stands = padded_more (map f (take i (list_of l))) at i g before k u.stands ∙ ap padded (ap (λ x. map f (take i (list_of l)) ++ (x ∷ [])) e ∙ more) }
+    where
+      before : length (map f (take i (list_of l))) ≡ i
+      before = length-map (take i (list_of l)) f ∙ length-take-le i (list_of l) (omega arith)
 
-or_none : (a : Bool) → (a || false) ≡ a
-or_none true = refl
-or_none false = refl
+      more : map f (take i (list_of l)) ++ (f (get_or l.at i d) ∷ []) ≡ map f (take (i + 1) (list_of l))
+      more = let k : i < length (list_of l) = omega arith in sym (rw (add-one, take-suc (list_of l) i d, map-append, get_or-take))
 
-module _ (fault : Factor → Bool) (l : Factors) (sized : length (list_of l) ≡ l.len) where
-  pub told_on : (d : Factor) (i : ℕ) (t u : Bool) → i < l.len → some fault (list_of l) ≡ (t || some fault (drop i (list_of l))) → u ≡ fault (get_or l.at i d) → some fault (list_of l) ≡ ((t || u) || some fault (drop (i + 1) (list_of l)))
-  unfolding some
-  told_on d i t u h e q = e ∙ ap (λ r. t || some fault r) (rest l d i (omega arith) h) ∙ rw (← q) (or_assoc t u (some fault (drop (i + 1) (list_of l))))
+  pub mapped_end : l.len ≤ i → length (list_of l) ≡ l.len → ◌≡◌ {A = Factors} (record { at = at; len = l.len }) (pack (map f (list_of l)))
+  mapped_end h sized =
+      let t = take_all i (list_of l) (omega arith) in
+      padded_all (map f (list_of l)) at l.len (sym (length-map (list_of l) f ∙ sized)) (u.stands ∙ ap (λ m. padded (map f m)) t)
 
-  pub told_end : (i : ℕ) (t : Bool) → l.len ≤ i → some fault (list_of l) ≡ (t || some fault (drop i (list_of l))) → t ≡ some fault (list_of l)
-  unfolding some
-  told_end i t h e = sym (e ∙ ap (λ r. t || some fault r) (drop_of_length-le (list_of l) {i = i} (omega arith)) ∙ or_none t)
+-- what was made of a list mapped has its factors, and is no longer
+module _ (f : Factor → Factor) (l r : Factors) (e : r ≡ pack (map f (list_of l))) where
+  pub mapped_list : list_of r ≡ map f (list_of l)
+  mapped_list = ap list_of e ∙ list_pack _
+
+  pub mapped_short : l.len ≤ 16 → r.len ≤ 16
+  mapped_short h = omega (arith, ap (λ (l : Factors). l.len) e ∙ len_pack _, length-map (list_of l) f, length-take l.len l.at)
+
+-- ---- a fault looked for
+
+-- std's search is the definition's
+pub any_is : {A : Type 0} (fault : A → Bool) (l : List A) → list_any fault l ≡ some fault l
+unfolding some
+any_is fault l = same_from_clauses (list_any fault) (some fault) (λ x r. fault x || r) refl (λ _ _. refl) (λ _ _. refl) l
 
 -- a list with no fault has none at a place
 pub none_at : (fault : Factor → Bool) (l : List Factor) (i : ℕ) (d : Factor) → i < length l → some fault l ≡ false → fault (get_or l i d) ≡ false
@@ -94,26 +128,3 @@ pub none_in : (fault : Factor → Bool) (l : Factors) (d : Factor) (i : ℕ) →
 none_in fault l d i h e q =
     let k : i < length (list_of l) = omega arith in
     rw (← get_or-take l.len l.at i d h) (none_at fault (list_of l) i d k q)
-
--- ---- append: one factor of b more
-pub append-turn : (fs : List Factor) (b to : Factors) (d : Factor) (n j : ℕ) → n ≡ length fs → j < length b.at → n + j < 16
-    → to ≡ pack (fs ++ take j b.at)
-    → ◌≡◌ {A = Factors} (record { at = set to.at (n + j) (get_or b.at j d); len = n + j + 1 }) (pack (fs ++ take (j + 1) b.at))
-append-turn fs b to d n j e h k q =
-    let xs = fs ++ take j b.at in
-    let hx : n + j ≡ length xs = omega (arith, length-append fs (take j b.at), length-take-le j b.at (omega arith)) in
-    rw (q, hx) (push_pack xs (get_or b.at j d) (omega arith) ∙ ap pack (simp (add-one, take-suc b.at j d h, append_assoc)))
-
--- ---- a list mapped: o holds the part so far, g is the new factor, r what `push` gave
-module _ (f : Factor → Factor) (l o : Factors) (i : ℕ) (e : o ≡ pack (map f (take i (list_of l)))) (h : i < l.len) (sized : length (list_of l) ≡ l.len) where
-  pub pushable : l.len ≤ 16 → o.len < 16
-  pushable s =
-      let t = length-take-le i (list_of l) (omega arith) in
-      let m = length-map (take i (list_of l)) f in
-      rw e (rw (len_pack (map f (take i (list_of l)))) (omega arith))
-
-  pub push_turn : (d g : Factor) (r : Factors) → g ≡ f (get_or l.at i d) → ((fs : List Factor) → o ≡ pack fs → r ≡ pack (fs ++ (g ∷ []))) → r ≡ pack (map f (take (i + 1) (list_of l)))
-  push_turn d g r q u = u (map f (take i (list_of l))) e ∙ ap pack (rw q turn)
-    where
-      turn : map f (take i (list_of l)) ++ (f (get_or l.at i d) ∷ []) ≡ map f (take (i + 1) (list_of l))
-      turn = let k : i < length (list_of l) = omega arith in sym (rw (add-one, take-suc (list_of l) i d, map-append, get_or-take))

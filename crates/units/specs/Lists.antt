@@ -1,13 +1,12 @@
 -- Lists of factors: their shape, product, quotient and power (01, "Records and sizes", last sentence of "Canonical form").
 use Rattle.std.specs.Prelude.{Bool, false, not, ◌||◌, List, [], ◌∷◌, ◌++◌, map, ℕ, ◌+◌, ◌-◌, ltb, pos, length, take, replicate}
-use Rattle.exponents.specs.Outcome.{Outcome, given, refused, SHAPE, UNKNOWN, ROOM, number, unless, bind, each, apply}
+use Rattle.exponents.specs.Outcome.{Outcome, Ok, SHAPE, UNKNOWN, ROOM, unless, bind, each, apply}
 use Rattle.exponents.specs.Fractions.{neg, mul?, faulty}
 use Rattle.exponents.specs.declared.Exponent.{Exponent}
 use Rattle.units.specs.Prefixes.{prefix_fault}
 use Rattle.units.specs.declared.Prefix.TheVariants.{Metric}
 use Rattle.units.specs.declared.Factor.{Factor}
 use Rattle.units.specs.declared.Factors.{Factors}
-use Rattle.units.specs.declared.lists.Made.{Made}
 
 -- ---- a value and its list
 
@@ -23,14 +22,9 @@ list_of l = take l.len l.at
 unfoldable pub pack : List Factor → Factors
 pack fs = record { at = fs ++ replicate (16 - length fs) no_factor; len = length fs }
 
--- the empty list beside a refusal's number
-abbrev pub refused_by : ℕ → Made
-refused_by n = record { unit = pack []; refusal = n }
-
 -- how code hands a list over
-abbrev pub made_of : Outcome (List Factor) → Made
-made_of (given fs) = record { unit = pack fs; refusal = 0 }
-made_of (refused r) = refused_by (number r)
+abbrev pub made_of : Outcome (List Factor) → Outcome Factors
+made_of o = apply pack o
 
 -- ---- what a given list must be
 
@@ -52,7 +46,7 @@ unfoldable pub checked : ℕ → Factors → Outcome (List Factor)
 checked rows l =
     unless (ltb 16 l.len || some factor_fault (list_of l)) SHAPE
     (unless (some (unknown rows) (list_of l)) UNKNOWN
-    (given (list_of l)))
+    (Ok (list_of l)))
 
 -- two lists, in argument order
 unfoldable pub both : ℕ → Factors → Factors → Outcome (List Factor × List Factor)
@@ -66,7 +60,7 @@ with_exponent f e = record { row = f.row; prefix = f.prefix; exponent = e }
 
 -- the lists joined, unmerged: over 16 factors is ROOM
 unfoldable pub joined : List Factor → List Factor → Outcome (List Factor)
-joined fs gs = unless (ltb 16 (length fs + length gs)) ROOM (given (fs ++ gs))
+joined fs gs = unless (ltb 16 (length fs + length gs)) ROOM (Ok (fs ++ gs))
 
 -- the exponent negated
 unfoldable pub inverted : Factor → Factor

@@ -3,12 +3,10 @@ use Rattle.std.specs.Prelude.{Bool, ◌||◌, ℕ, ℤ, pos, negsuc, Float}
 use Rattle.std.specs.Int.Signed.{lt_z}
 use Rattle.std.specs.Float.{binary64}
 use Rattle.std.specs.Float.Ieee.{of_bits}
-use Rattle.exponents.specs.Outcome.{Outcome, given, refused, SHAPE, number, unless}
+use Rattle.exponents.specs.Outcome.{Outcome, Ok, SHAPE, unless}
 use Rattle.floats.specs.Power.{power, power_count}
 use Rattle.units.specs.declared.Prefix.{Prefix}
 use Rattle.units.specs.declared.Prefix.TheVariants.{Metric, Binary}
-use Rattle.units.specs.declared.prefixes.PrefixFactor.{PrefixFactor}
-use Rattle.units.specs.declared.prefixes.PrefixFactor.TheVariants.{Value, Refused}
 
 -- n beyond -1100 to 1100
 abbrev pub number_fault : ℤ → Bool
@@ -30,8 +28,4 @@ factor_count (Binary n) = power_count n
 
 -- the call on any prefix
 unfoldable pub prefix_factor : Prefix → Outcome Float
-prefix_factor p = unless (prefix_fault p) SHAPE (given (factor_of p))
-
-abbrev pub prefix_factor_of : Outcome Float → PrefixFactor
-prefix_factor_of (given v) = Value v
-prefix_factor_of (refused r) = Refused (number r)
+prefix_factor p = unless (prefix_fault p) SHAPE (Ok (factor_of p))

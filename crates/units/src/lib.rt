@@ -1,5 +1,5 @@
 // The records of units and quantities (01, "Records and sizes"), and what needs no table: prefixes and lists of factors.
-// `prefixes`: `prefix_factor`. `lists`: `list_fault`, `product`, `quotient`, `list_power`.
+// `prefixes`: `prefix_factor`. `lists`: `check_list`, `product`, `quotient`, `list_power`.
 #![tactic(auto)]
 
 use exponents::Exponent;
@@ -27,6 +27,7 @@ pub struct Factor {
 #[derive(Clone, Copy, Drop)]
 pub struct Factors {
     pub at: [Factor; 16],
+    // Kept: no heap, so a buffer of a fixed size and how many of its places hold something.
     pub len: usize,
 }
 
@@ -40,6 +41,7 @@ pub enum Kind {
 #[derive(Clone, Copy, Drop)]
 pub struct Row {
     pub def: [Factor; 8],
+    // Kept: no heap, so a buffer of a fixed size and how many of its places hold something.
     pub len: usize,
     pub rank: u16,
     pub kind: Kind,
@@ -49,6 +51,7 @@ pub struct Row {
 #[derive(Clone, Copy, Drop)]
 pub struct Rows {
     pub at: [Row; 128],
+    // Kept: no heap, so a buffer of a fixed size and how many of its places hold something.
     pub len: usize,
 }
 
@@ -70,5 +73,6 @@ pub struct Candidate {
 #[derive(Clone, Copy, Drop)]
 pub struct Candidates {
     pub at: [Candidate; 32],
+    // Kept: no heap, so a buffer of a fixed size and how many of its places hold something.
     pub len: usize,
 }

@@ -1,70 +1,65 @@
 // Lists of factors: their shape, and product, quotient and power, unmerged (01, "Records and sizes", "Canonical form").
 ghost use Rattle.std.specs.Prelude.{◌≡◌, false, List, [], ◌∷◌, ◌++◌, map, ◌+◌, ◌≤◌, ◌<◌};
-ghost use Rattle.exponents.specs.Outcome.{refusal_of, each};
+ghost use Rattle.exponents.specs.Outcome.{tested, each};
 ghost use Rattle.units.specs.declared.Factor.{Factor as Factorᵛ};
 ghost use Rattle.units.specs.Lists as spec;
 ghost use Rattle.units.specs.Lists.{no_factor, list_of, pack, made_of, factor_fault, some, unknown, checked, both};
-ghost use Rattle.units.specs.Held.{raised_of};
 
 use super::{Factor, Factors, Prefix};
-use exponents::refusals::{ROOM, SHAPE, UNKNOWN};
-use exponents::{Exponent, Fraction};
-
-// A list, or the empty list beside the number of the refusal.
-#[derive(Clone, Copy, Drop)]
-pub struct Made {
-    pub unit: Factors,
-    pub refusal: u32,
-}
+use exponents::Exponent;
+use exponents::refusals::Refusal;
 
 // ---- what a given list must be
 
 // Whether a factor's prefix or exponent breaks its rule.
+#[tactic(auto, unfolding(crate::specs::Lists::factor_fault))]
 pub fn factor_fault(f: Factor) -> bool
     ensures { result ≡ factor_fault f }
 {
-    let p = f.prefix;
-    let e = f.exponent;
-    super::prefixes::prefix_fault(p) | exponents::faulty(e)
+    super::prefixes::prefix_fault(f.prefix) | exponents::faulty(f.exponent)
 }
 
 // Whether a factor names a row that isn't there.
 fn is_unknown(rows: usize, f: Factor) -> bool
     ensures { result ≡ unknown rows f }
 {
-    !((f.row as usize) < rows)
+    rows <= f.row as usize
 }
 
-// The refusal of a list given with so many rows, 0 for none: SHAPE of all of it, then UNKNOWN.
-pub fn list_fault(rows: usize, l: Factors) -> u32
-    ensures { result ≡ refusal_of (checked rows l) }
+// Whether some factor breaks its rule, or names a row that isn't there.
+fn any_fault(factors: &[Factor]) -> bool
+    ensures { result ≡ some factor_fault factors.now }
 {
-    let n = l.len;
-    if 16 < n {
-        return SHAPE;
+    factors.iter().any(|f| factor_fault(*f))
+}
+
+fn any_unknown(rows: usize, factors: &[Factor]) -> bool
+    ensures { result ≡ some (unknown rows) factors.now }
+{
+    factors.iter().any(|f| is_unknown(rows, *f))
+}
+
+// What a list given with so many rows is refused for: SHAPE of all of it, then UNKNOWN.
+#[tactic(auto, unfolding(crate::specs::Lists::checked, exponents::specs::Outcome::unless))]
+pub fn check_list(rows: usize, l: Factors) -> Result<(), Refusal>
+    ensures { result ≡ tested (checked rows l) }
+{
+    if 16 < l.len || any_fault(&l.at[..l.len]) {
+        return Err(Refusal::Shape);
     }
-    let mut lost = false;
-    let mut i: usize = 0;
-    while i < n {
-        let f = l.at[i];
-        if factor_fault(f) {
-            return SHAPE;
-        }
-        lost = lost | is_unknown(rows, f);
-        i += 1;
+    if any_unknown(rows, &l.at[..l.len]) {
+        return Err(Refusal::Unknown);
     }
-    if lost { UNKNOWN } else { 0 }
+    Ok(())
 }
 
 // The same of two lists, the first before the second.
-pub fn pair_fault(rows: usize, a: Factors, b: Factors) -> u32
-    ensures { result ≡ refusal_of (both rows a b) }
+#[tactic(auto, using(crate::proofs::Checked::both_tested), unfolding(exponents::specs::Outcome::bind))]
+pub fn check_pair(rows: usize, a: Factors, b: Factors) -> Result<(), Refusal>
+    ensures { result ≡ tested (both rows a b) }
 {
-    let p = list_fault(rows, a);
-    if p != 0 {
-        return p;
-    }
-    list_fault(rows, b)
+    check_list(rows, a)?;
+    check_list(rows, b)
 }
 
 // ---- lists made
@@ -80,195 +75,136 @@ pub fn no_factor() -> Factor
     }
 }
 
+#[tactic(auto, unfolding(crate::specs::Lists::pack))]
 pub fn empty() -> Factors
     ensures { result ≡ pack [] }
 {
-    let b = no_factor();
     Factors {
-        at: [b; 16],
+        at: [no_factor(); 16],
         len: 0,
     }
 }
 
 // One factor more at the end of a list with a clean tail.
-pub fn push(l: Factors, f: Factor) -> Factors
+#[tactic(auto, using(crate::proofs::Laws::pushed))]
+pub fn push(mut l: Factors, f: Factor) -> Factors
     requires { l.len < 16 }
     ensures { (fs : List Factorᵛ) → l ≡ pack fs → result ≡ pack (fs ++ (f ∷ [])) }
 {
-    let n = l.len;
-    let mut o = l;
-    o.at[n] = f;
-    o.len = n + 1;
-    o
+    let len = l.len;
+    l.at[len] = f;
+    l.len = len + 1;
+    l
 }
 
 // The factors of `b` after those of `out`, a list with a clean tail.
-pub fn append(out: Factors, b: Factors) -> Factors
+pub fn append(mut out: Factors, b: Factors) -> Factors
     requires { out.len + b.len ≤ 16 }
     ensures { (fs : List Factorᵛ) → out ≡ pack fs → result ≡ pack (fs ++ list_of b) }
 {
-    let n = out.len;
-    let m = b.len;
-    let mut to = out;
-    let mut j: usize = 0;
-    while j < m {
-        let f = b.at[j];
-        let at = n + j;
-        to.at[at] = f;
-        to.len = at + 1;
-        j += 1;
-    }
-    to
-}
-
-pub fn refused(refusal: u32) -> Made
-    ensures { result ≡ spec.refused_by refusal }
-{
-    let none = empty();
-    Made {
-        unit: none,
-        refusal: refusal,
-    }
+    let start = out.len;
+    let len = start + b.len;
+    out.at[start..len].copy_from_slice(&b.at[..b.len]);
+    out.len = len;
+    out
 }
 
 // The same row and prefix with another exponent.
+#[tactic(auto, unfolding(crate::specs::Lists::with_exponent))]
 fn with_exponent(f: Factor, e: Exponent) -> Factor
     ensures { result ≡ spec.with_exponent f e }
 {
-    let p = f.prefix;
-    Factor {
-        row: f.row,
-        prefix: p,
-        exponent: e,
-    }
+    Factor { exponent: e, ..f }
 }
 
 // ---- product and quotient
 
 // The lists joined, unmerged, or ROOM.
-fn joined(a: Factors, b: Factors) -> Made
+#[tactic(auto, using(crate::proofs::Checked::no_room, crate::proofs::Checked::room, crate::proofs::Laws::listed, crate::proofs::Laws::len_pack))]
+fn joined(a: Factors, b: Factors) -> Result<Factors, Refusal>
     requires { (a.len ≤ 16) × (b.len ≤ 16) }
     ensures { result ≡ made_of (spec.joined (list_of a) (list_of b)) }
 {
     if 16 < a.len + b.len {
-        return refused(ROOM);
+        return Err(Refusal::Room);
     }
-    let none = empty();
-    let first = append(none, a);
-    let all = append(first, b);
-    Made {
-        unit: all,
-        refusal: 0,
-    }
+    Ok(append(append(empty(), a), b))
 }
 
 // The exponent negated. An exponent that keeps its rule has a negative in range.
+#[tactic(auto, using(crate::proofs::Sound::inverted_by, crate::proofs::Sound::never_refused))]
 pub fn inverted(f: Factor) -> Factor
     requires { factor_fault f ≡ false }
     ensures { result ≡ spec.inverted f }
 {
-    let e = f.exponent;
-    let n = exponents::negated(e);
-    match n {
-        Fraction::Exact(x) => with_exponent(f, x),
-        Fraction::Refused(r) => f,
+    match exponents::negated(f.exponent) {
+        Ok(x) => with_exponent(f, x),
+        Err(_) => f,
     }
 }
 
 // A checked list with its exponents negated.
+#[tactic(auto, using(crate::proofs::Laws::none_in, crate::proofs::Laws::listed, crate::proofs::Laws::padded_none, crate::proofs::Laws::mapped_more, crate::proofs::Laws::mapped_end))]
 pub fn inverse(l: Factors) -> Factors
     requires { (l.len ≤ 16) × (some factor_fault (list_of l) ≡ false) }
     ensures { result ≡ pack (map spec.inverted (list_of l)) }
 {
-    let n = l.len;
     let mut o = empty();
-    let mut i: usize = 0;
-    while i < n {
-        let f = l.at[i];
-        let g = inverted(f);
-        o = push(o, g);
-        i += 1;
+    for i in 0..l.len {
+        o.at[i] = inverted(l.at[i]);
     }
+    o.len = l.len;
     o
 }
 
-pub fn product(rows: usize, a: Factors, b: Factors) -> Made
+#[tactic(auto, using(crate::proofs::Checked::both_then, crate::proofs::Checked::first_passed, crate::proofs::Checked::second_passed, crate::proofs::Checked::short), unfolding(crate::specs::Lists::product, exponents::specs::Outcome::bind))]
+pub fn product(rows: usize, a: Factors, b: Factors) -> Result<Factors, Refusal>
     ensures { result ≡ made_of (spec.product rows a b) }
 {
-    let p = pair_fault(rows, a, b);
-    if p != 0 {
-        return refused(p);
-    }
+    check_pair(rows, a, b)?;
     joined(a, b)
 }
 
-pub fn quotient(rows: usize, a: Factors, b: Factors) -> Made
+#[tactic(auto, using(crate::proofs::Checked::both_then, crate::proofs::Checked::first_passed, crate::proofs::Checked::second_passed, crate::proofs::Checked::short, crate::proofs::Checked::no_fault, crate::proofs::Laws::mapped_list), unfolding(crate::specs::Lists::quotient, exponents::specs::Outcome::bind))]
+pub fn quotient(rows: usize, a: Factors, b: Factors) -> Result<Factors, Refusal>
     ensures { result ≡ made_of (spec.quotient rows a b) }
 {
-    let p = pair_fault(rows, a, b);
-    if p != 0 {
-        return refused(p);
-    }
-    let c = inverse(b);
-    joined(a, c)
+    check_pair(rows, a, b)?;
+    joined(a, inverse(b))
 }
 
 // ---- power
 
-// A factor with its exponent multiplied, or the number of the refusal.
-#[derive(Clone, Copy, Drop)]
-pub enum Raised {
-    Power(Factor),
-    Refused(u32),
-}
-
-fn power_of(e: Exponent, f: Factor) -> Raised
-    ensures { result ≡ raised_of (spec.raised e f) }
+// A factor with its exponent multiplied.
+#[tactic(auto, unfolding(crate::specs::Lists::raised))]
+fn power_of(e: Exponent, f: Factor) -> Result<Factor, Refusal>
+    ensures { result ≡ spec.raised e f }
 {
-    let x = f.exponent;
-    let y = exponents::product(x, e);
-    match y {
-        Fraction::Exact(z) => Raised::Power(with_exponent(f, z)),
-        Fraction::Refused(r) => Raised::Refused(r),
-    }
+    let x = exponents::product(f.exponent, e)?;
+    Ok(with_exponent(f, x))
 }
 
 // Each exponent of a list multiplied; the first refusal is the answer.
-pub fn each_power(e: Exponent, l: Factors) -> Made
+#[tactic(auto, using(crate::proofs::Powers::upto_none, crate::proofs::Powers::upto_more, crate::proofs::Laws::listed, exponents::proofs::Taking::take_step_of), unfolding(exponents::specs::Outcome::each, exponents::specs::Outcome::bind))]
+pub fn each_power(e: Exponent, l: Factors) -> Result<Factors, Refusal>
     requires { l.len ≤ 16 }
     ensures { result ≡ made_of (each (spec.raised e) (list_of l)) }
 {
-    let n = l.len;
     let mut o = empty();
-    let mut i: usize = 0;
-    while i < n {
-        let f = l.at[i];
-        let y = power_of(e, f);
-        match y {
-            Raised::Power(g) => {
-                o = push(o, g);
-            }
-            Raised::Refused(r) => {
-                return refused(r);
-            }
-        }
-        i += 1;
+    for i in 0..l.len {
+        o.at[i] = power_of(e, l.at[i])?;
     }
-    Made {
-        unit: o,
-        refusal: 0,
-    }
+    o.len = l.len;
+    Ok(o)
 }
 
-pub fn list_power(rows: usize, a: Factors, e: Exponent) -> Made
+#[tactic(auto, using(crate::proofs::Checked::checked_then, crate::proofs::Checked::short), unfolding(crate::specs::Lists::list_power, exponents::specs::Outcome::bind, exponents::specs::Outcome::unless))]
+pub fn list_power(rows: usize, a: Factors, e: Exponent) -> Result<Factors, Refusal>
     ensures { result ≡ made_of (spec.list_power rows a e) }
 {
-    let p = list_fault(rows, a);
-    if p != 0 {
-        return refused(p);
-    }
+    check_list(rows, a)?;
     if exponents::faulty(e) {
-        return refused(SHAPE);
+        return Err(Refusal::Shape);
     }
     each_power(e, a)
 }

@@ -1,18 +1,11 @@
 // Prefixes: their rule and their factor by the power rule (01, "Records and sizes", "Powers and scales"), with the multiplications that it takes (02, order 5).
 ghost use Rattle.std.specs.Prelude.{◌≡◌, ◌≤◌};
 ghost use Rattle.floats.specs.Power.{tally};
-ghost use Rattle.units.specs.Prefixes.{number_fault, prefix_fault, factor_of, factor_count, prefix_factor, prefix_factor_of};
+ghost use Rattle.units.specs.Prefixes.{number_fault, prefix_fault, factor_of, factor_count, prefix_factor};
 
 use super::Prefix;
-use exponents::refusals::SHAPE;
+use exponents::refusals::Refusal;
 use floats::Tally;
-
-// The factor of a prefix, or the number of the refusal.
-#[derive(Clone, Copy, Drop)]
-pub enum PrefixFactor {
-    Value(f64),
-    Refused(u32),
-}
 
 // n is beyond -1100 to 1100
 fn number_fault(n: i32) -> bool
@@ -45,16 +38,16 @@ pub fn counted_factor(p: Prefix) -> Tally
 pub fn factor_of(p: Prefix) -> f64
     ensures { result ≡ factor_of p }
 {
-    let t = counted_factor(p);
-    t.value
+    counted_factor(p).value
 }
 
 // The factor of a prefix that keeps its rule; SHAPE of another.
-pub fn prefix_factor(p: Prefix) -> PrefixFactor
-    ensures { result ≡ prefix_factor_of (prefix_factor p) }
+#[tactic(auto, unfolding(crate::specs::Prefixes::prefix_factor, exponents::specs::Outcome::unless))]
+pub fn prefix_factor(p: Prefix) -> Result<f64, Refusal>
+    ensures { result ≡ prefix_factor p }
 {
     if prefix_fault(p) {
-        return PrefixFactor::Refused(SHAPE);
+        return Err(Refusal::Shape);
     }
-    PrefixFactor::Value(factor_of(p))
+    Ok(factor_of(p))
 }

@@ -1,63 +1,55 @@
 // Product and quotient of quantities (01, "Conversion, sums, comparison", "The refusals", last sentence of "Canonical form"). `_over`: over a table that is checked.
+// Kept: calls alike but for the call they pass on to: each has its name in 01 or 02 and a contract over its own definition.
 ghost use Rattle.std.specs.Prelude.{◌≡◌};
 ghost use Rattle.units.specs.declared.Rows.{Rows as Rowsᵛ};
 ghost use Rattle.tables.specs.Rows.{admit, base_rows};
 ghost use Rattle.tables.specs.Held.{admitted_of};
-ghost use Rattle.values.specs.Quantities.{answered_of};
 ghost use Rattle.values.specs.Calls as spec;
 
 use super::answers;
-use super::answers::Answer;
-use exponents::refusals::DIVZERO;
-use tables::Admitted;
+use exponents::refusals::Refusal;
+use tables::{Admitted, Rejected};
 use units::{Quantity, Rows};
 
-pub fn multiply_over(t: Admitted, q: Quantity, p: Quantity) -> Answer
-    ensures { (rows : Rowsᵛ) → t ≡ admitted_of (base_rows rows) (admit rows) → result ≡ answered_of (spec.multiply rows q p) }
+#[tactic(auto, unfolding(crate::specs::Calls::multiply), using(crate::proofs::Answered::made_refused, crate::proofs::Answered::made_kept))]
+pub fn multiply_over(
+    t: Result<Admitted, Rejected>,
+    q: Quantity,
+    p: Quantity,
+) -> Result<Quantity, Refusal>
+    ensures { (rows : Rowsᵛ) → t ≡ admitted_of (base_rows rows) (admit rows) → result ≡ spec.multiply rows q p }
 {
-    let u = q.unit;
-    let w = p.unit;
-    let m = lists::joins::product_over(t, u, w);
-    if m.refusal != 0 {
-        return answers::refused(m.refusal);
-    }
-    let l = m.unit;
-    answers::with_mark(q.value * p.value, l, true)
+    let l = lists::joins::product_over(t, q.unit, p.unit)?;
+    Ok(answers::with_mark(q.value * p.value, l, true))
 }
 
-pub fn multiply(rows: Rows, q: Quantity, p: Quantity) -> Answer
-    ensures { result ≡ answered_of (spec.multiply rows q p) }
+pub fn multiply(rows: Rows, q: Quantity, p: Quantity) -> Result<Quantity, Refusal>
+    ensures { result ≡ spec.multiply rows q p }
 {
     let t = lists::opening::admitted(rows);
     multiply_over(t, q, p)
 }
 
 // The divisor's value is looked at after both lists, and before their joined length.
-pub fn checked_div_over(t: Admitted, q: Quantity, p: Quantity) -> Answer
-    ensures { (rows : Rowsᵛ) → t ≡ admitted_of (base_rows rows) (admit rows) → result ≡ answered_of (spec.checked_div rows q p) }
+#[tactic(auto, unfolding(crate::specs::Calls::checked_div, units::specs::Lists::quotient, exponents::specs::Outcome::bind, exponents::specs::Outcome::unless), using(crate::proofs::Answered::made_refused, crate::proofs::Answered::made_kept, units::proofs::Checked::both_then))]
+pub fn checked_div_over(
+    t: Result<Admitted, Rejected>,
+    q: Quantity,
+    p: Quantity,
+) -> Result<Quantity, Refusal>
+    ensures { (rows : Rowsᵛ) → t ≡ admitted_of (base_rows rows) (admit rows) → result ≡ spec.checked_div rows q p }
 {
-    if t.refusal != 0 {
-        return answers::refused(t.refusal);
-    }
-    let u = q.unit;
-    let w = p.unit;
-    let f = units::lists::pair_fault(t.len, u, w);
-    if f != 0 {
-        return answers::refused(f);
-    }
+    let t = t?;
+    units::lists::check_pair(t.len, q.unit, p.unit)?;
     if floats::is_zero(p.value) {
-        return answers::refused(DIVZERO);
+        return Err(Refusal::DivZero);
     }
-    let m = units::lists::quotient(t.len, u, w);
-    if m.refusal != 0 {
-        return answers::refused(m.refusal);
-    }
-    let l = m.unit;
-    answers::with_mark(q.value / p.value, l, true)
+    let l = units::lists::quotient(t.len, q.unit, p.unit)?;
+    Ok(answers::with_mark(q.value / p.value, l, true))
 }
 
-pub fn checked_div(rows: Rows, q: Quantity, p: Quantity) -> Answer
-    ensures { result ≡ answered_of (spec.checked_div rows q p) }
+pub fn checked_div(rows: Rows, q: Quantity, p: Quantity) -> Result<Quantity, Refusal>
+    ensures { result ≡ spec.checked_div rows q p }
 {
     let t = lists::opening::admitted(rows);
     checked_div_over(t, q, p)

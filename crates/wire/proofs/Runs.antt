@@ -3,12 +3,12 @@ use mathlib.Core.Path.{◌≡◌, refl, sym, ap, ◌∙◌}
 use mathlib.Core.Bool.{Bool, true, false}
 use mathlib.Core.List.{List, [], ◌∷◌, ◌++◌, append_assoc}
 use Prim.Native.Nat.{ℕ, zero, suc, ◌+◌, ◌-◌, ◌*◌, ◌/◌, ◌%◌, ◌≤◌, ◌<◌}
-use native.Mathlib.Nat.{le-div_iff_mul-le}
+use native.Mathlib.Nat.{le-div_iff_mul-le, sub-zero}
 use native.Mathlib.Numerals.{add-one}
 use native.Mathlib.Omega.{arith}
 use borrow.Author.Tests.{leb-true}
 use lib.Dec.{leb, eqb}
-use lib.ListN.{length, get_or, set, length-append, length-replicate}
+use lib.ListN.{length, get_or, set, replicate, length-append, length-replicate}
 use lib.Seq.{set-append_seam}
 use Rattle.exponents.specs.Words.{pick}
 use Rattle.wire.specs.Bytes.{run_at, pad_to, count_of}
@@ -49,12 +49,16 @@ pad_push none m l a h =
 
 -- ---- m places of a record
 
--- one record more, put behind those that are read
-pub places-turn : {A : Type 0} (read : List ℕ → ℕ → A) (size : ℕ) (none : A) (m : ℕ) (s : List ℕ) (at i : ℕ) (l : List A) (a : A) → i < m
-    → l ≡ pad_to none m (run_at read size i s at) → a ≡ read s (at + i * size) → set l i a ≡ pad_to none m (run_at read size (i + 1) s at)
-places-turn read size none m s at i l a h e g =
+-- none is read, and one record more, put behind those that are read
+pub places_none : {A : Type 0} (read : List ℕ → ℕ → A) (size : ℕ) (none : A) (m : ℕ) (s : List ℕ) (at : ℕ) → pad_to none m (run_at read size 0 s at) ≡ replicate m none
+unfolding run_at pad_to
+places_none read size none m s at = ap (λ k. replicate k none) (sub-zero m)
+
+pub places_turn : {A : Type 0} (read : List ℕ → ℕ → A) (size : ℕ) (none : A) (m : ℕ) (s : List ℕ) (at i : ℕ) → i < m
+    → pad_to none m (run_at read size (i + 1) s at) ≡ set (pad_to none m (run_at read size i s at)) i (read s (at + i * size))
+places_turn read size none m s at i h =
     let n = length_run_at read size i s at in
-    rw (e, g, add-one, run_at_snoc) (ap (λ k. set (pad_to none m (run_at read size i s at)) k (read s (at + i * size))) (sym n) ∙ pad_push none m (run_at read size i s at) _ (omega arith))
+    rw (add-one, run_at_snoc) (sym (ap (λ k. set (pad_to none m (run_at read size i s at)) k (read s (at + i * size))) (sym n) ∙ pad_push none m (run_at read size i s at) _ (omega arith)))
 
 pub count_room : (m n : ℕ) → count_of m n ≤ m
 unfolding count_of

@@ -88,3 +88,7 @@ pub factor_written : (l l1 l2 l3 : List ℕ) (i : ℕ) (f : Factor) → l1 ≡ s
     → l2 ≡ sets l1 (i + 4) (prefix_bytes f.prefix) → l3 ≡ sets l2 (i + 12) (exponent_bytes f.exponent) → l3 ≡ sets l i (factor_bytes f)
 unfolding factor_bytes
 factor_written l l1 l2 l3 i f a b c = simp (sets_number, sets_prefix, add_assoc, c, b, a)
+
+pub factors_turn : (out : List ℕ) (b i : ℕ) (l : List Factor) (d : Factor) → i < length l
+    → sets (sets out (b + i * 20) (factor_bytes (get_or l i d))) (b + (i + 1) * 20) (run_bytes factor_bytes (drop (i + 1) l)) ≡ sets out (b + i * 20) (run_bytes factor_bytes (drop i l))
+factors_turn = write_turn factor_bytes 20 length-factor_bytes

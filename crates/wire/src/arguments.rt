@@ -7,6 +7,7 @@ use super::reading;
 use exponents::Exponent;
 use units::{Candidates, Factors, Prefix, Quantity};
 
+#[tactic(auto, unfolding(crate::specs::Arguments::prefix_from))]
 pub fn prefix(s: &[u8]) -> Prefix
     ensures { result ≡ prefix_from s.now }
 {
@@ -16,6 +17,7 @@ pub fn prefix(s: &[u8]) -> Prefix
     Prefix::Metric(2000)
 }
 
+#[tactic(auto, unfolding(crate::specs::Arguments::exponent_from))]
 pub fn exponent(s: &[u8]) -> Exponent
     ensures { result ≡ exponent_from s.now }
 {
@@ -35,6 +37,7 @@ pub fn bad_list() -> Factors
     }
 }
 
+#[tactic(auto, unfolding(crate::specs::Arguments::list_from))]
 pub fn list(s: &[u8]) -> Factors
     ensures { result ≡ list_from s.now }
 {
@@ -44,6 +47,7 @@ pub fn list(s: &[u8]) -> Factors
     bad_list()
 }
 
+#[tactic(auto, unfolding(crate::specs::Arguments::quantity_from))]
 pub fn quantity(s: &[u8]) -> Quantity
     ensures { result ≡ quantity_from s.now }
 {
@@ -59,6 +63,7 @@ pub fn quantity(s: &[u8]) -> Quantity
 }
 
 // How many records of so many bytes; one more than the most where they are no whole number.
+#[tactic(auto, unfolding(crate::specs::Arguments::many_in))]
 pub fn many(len: usize, size: usize, most: usize) -> usize
     requires { (0 < size) × (most < 1000) }
     ensures { result ≡ many_in size most len }
@@ -69,6 +74,7 @@ pub fn many(len: usize, size: usize, most: usize) -> usize
     most + 1
 }
 
+#[tactic(auto, using(crate::proofs::Runs::places_none, crate::proofs::Runs::places_turn), unfolding(crate::specs::Arguments::candidates_from))]
 pub fn candidates(s: &[u8]) -> Candidates
     ensures { result ≡ candidates_from s.now }
 {
@@ -76,11 +82,8 @@ pub fn candidates(s: &[u8]) -> Candidates
     let n = reading::count(32, len);
     let none = lent::no_candidate();
     let mut at = [none; 32];
-    let mut i = 0;
-    while i < n {
-        let c = reading::read_candidate(s, i * 328);
-        at[i] = c;
-        i += 1;
+    for i in 0..n {
+        at[i] = reading::read_candidate(s, i * 328);
     }
     Candidates { at, len }
 }

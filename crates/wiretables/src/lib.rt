@@ -15,6 +15,7 @@ use wire::reading;
 use wire::writing::write_row;
 
 // Rows past the most are not read; the length tells of them.
+#[tactic(auto, using(wire::proofs::Runs::places_none, wire::proofs::Runs::places_turn), unfolding(wire::specs::Arguments::table_from))]
 pub fn table(s: &[u8]) -> Rows
     ensures { result ≡ table_from s.now }
 {
@@ -22,11 +23,8 @@ pub fn table(s: &[u8]) -> Rows
     let n = reading::count(128, len);
     let none = lent::no_row();
     let mut at = [none; 128];
-    let mut i = 0;
-    while i < n {
-        let r = reading::read_row(s, i * 176);
-        at[i] = r;
-        i += 1;
+    for i in 0..n {
+        at[i] = reading::read_row(s, i * 176);
     }
     Rows { at, len }
 }
@@ -54,10 +52,7 @@ pub fn write_rows(out: &mut [u8], at: usize, rows: Rows, n: usize)
     requires { (n ≤ 128) × (at + n * 176 ≤ length out.old) }
     ensures { (out.new ≡ sets out.old at (run_bytes row_bytes (take n rows.at))) × (length out.new ≡ length out.old) × (length (run_bytes row_bytes (take n rows.at)) ≡ n * 176) }
 {
-    let mut i = 0;
-    while i < n {
-        let r = rows.at[i];
-        put(out, at + i * 176, r);
-        i += 1;
+    for i in 0..n {
+        put(out, at + i * 176, rows.at[i]);
     }
 }

@@ -1,26 +1,29 @@
 -- `convert_to_counted_over` meets its contract.
 use mathlib.Core.Path.{sym, ap, ◌∙◌}
+use Rattle.exponents.specs.Outcome.{apply}
+use Rattle.exponents.proofs.Handed.{handed_on}
 use Rattle.floats.specs.Power.{tally}
-use Rattle.tables.specs.Held.{tallied_of}
-use Rattle.tables.specs.Rules.{rules_in, counted}
+use Rattle.tables.specs.Rules.{counted}
 use Rattle.lists.proofs.Ready.{ready, stopped, goes, seen}
 use Rattle.conversion.specs.Conversion.{convert}
+use Rattle.values.specs.Quantities.{fresh}
 use Rattle.quantities.proofs.Ready.{forward}
 use Rattle.counted.specs.Calls.{counted_of, convert_to_counted}
-use Rattle.counted.proofs.Handed.{work, not_counted_lem}
+use Rattle.counted.proofs.Handed.{work}
 use Rattle.counted.proofs.convert_to_counted_over.Goals as goal
 
-pub returns-then-o-ne0 : goal.returns-then-o-ne0
+pub returns-in_err-o : goal.returns-in_err-o
 unfolding convert_to_counted
-returns-then-o-ne0 c rows target o =
+returns-in_err-o c rows target o =
     let s = c.args in
-    c.refused.ensures ∙ not_counted_lem _ _ (stopped rows s.q.unit target s.o o.is (work (λ R. convert R) rows s.q.value) c.if-o-ne0.true)
+    handed_on _ _ c.from_residual.ensures.1 ∙ ap counted_of (sym (stopped rows s.q.unit target (work (λ R. convert R) rows s.q.value) _ (sym c.in_err-o.was ∙ o.is)))
 
 pub returns : goal.returns
 unfolding convert_to_counted
 returns c rows target o =
     let s = c.args in
-    let r = ready rows s.q.unit target s.o o.is c.if-o-ne0.false in
-    let x = tally s.q.value 0 in
-    let e = forward r s.nums.now s.dens.now o.tells c.convert_counted-c.result (λ R fs gs. tallied_of (convert (counted R) fs gs x)) c.convert_counted-c.ensures in
-    c.in_target.ensures (seen r) r.gs (convert (counted (rules_in rows r.ks)) r.fs r.gs x) r.second e ∙ ap counted_of (sym (goes r (work (λ R. convert R) rows s.q.value)))
+    let r = ready rows s.q.unit target c.in_ok-o.o (sym c.in_ok-o.was ∙ o.is) in
+    let e = forward r s.bases.nums.now s.bases.dens.now o.tells c.convert_counted-c.result (λ R fs gs. convert (counted R) fs gs (tally s.q.value 0)) c.convert_counted-c.ensures in
+    c.in_target.ensures (seen r) r.gs r.second
+    ∙ ap (λ o. counted_of (apply (λ x. (fresh x.value r.gs, x.count)) o)) e
+    ∙ ap counted_of (sym (goes r (work (λ R. convert R) rows s.q.value)))

@@ -4,10 +4,10 @@ use Prim.Native.Nat.{◌<◌, ◌/◌}
 use native.Mathlib.Nat.{pos_of_ne-zero}
 use native.Mathlib.Omega.{arith}
 use Rattle.exponents.proofs.Ranged.{low, whole, div-pos, den_pos, over_num, over_den, over-nought, within}
-use Rattle.exponents.specs.declared.Fraction.TheVariants.{Exact}
 use mir.Facts.{to_z-of_z}
 use mir.Syntax.{w32}
 use mathlib.Core.Bool.{true}
+use Rattle.exponents.specs.Outcome.{Ok}
 use Rattle.exponents.proofs.reduced.Goals as goal
 
 -- `reduced` meets its contract.
@@ -19,7 +19,7 @@ returns-then-m-gt2147483647 c =
 pub returns-then-d-eq1 : goal.returns-then-d-eq1
 returns-then-d-eq1 c =
     let a = c.args in
-    ap (λ z. Exact (record { num = z; den = 1 })) (to_z-of_z {w = w32} (record { sfits = c.signed.type_inv }) ∙ c.signed.ensures)
+    ap (λ z. Ok (record { num = z; den = 1 })) (to_z-of_z {w = w32} (record { sfits = c.signed.type_inv }) ∙ c.signed.ensures)
     ∙ within a.neg a.m 1 c.if-m-gt2147483647.false (omega arith) (omega arith)
     ∙ whole a.neg a.m a.d c.if-d-eq1.true
 
@@ -52,6 +52,6 @@ returns c =
     let g = c.gcd-g.result in
     let e = c.gcd-g.ensures in
     let h : 0 < a.d = pos_of_ne-zero c.if-d-eq0.false in
-    ap (λ z. Exact (record { num = z; den = a.d / g })) (to_z-of_z {w = w32} (record { sfits = c.signed-2.type_inv }) ∙ c.signed-2.ensures)
+    ap (λ z. Ok (record { num = z; den = a.d / g })) (to_z-of_z {w = w32} (record { sfits = c.signed-2.type_inv }) ∙ c.signed-2.ensures)
     ∙ within a.neg (a.m / g) (a.d / g) c.if-a-gt2147483647.false (den_pos true a.m a.d g e h) c.if-b-gt2147483647.false
     ∙ low a.neg a.m a.d g e

@@ -5,7 +5,7 @@ use lib.IntN.{◌+ℤ◌, ℤ}
 use Rattle.exponents.proofs.Size.{cross, product-fits}
 use Rattle.exponents.proofs.WithSign.{sign_scale}
 use Rattle.exponents.specs.Fractions.{add, lowest, ranged}
-use Rattle.exponents.specs.Held.{fraction_of, with_sign}
+use Rattle.exponents.specs.Held.{with_sign}
 use Rattle.exponents.proofs.sum.Goals as goal
 
 pub overflow_mul-p : goal.overflow_mul-p
@@ -25,7 +25,7 @@ unfolding add
 returns c =
     let a = c.args in
     c.reduced.ensures
-    ∙ ap₂ (λ (z : ℤ) (d : ℕ). fraction_of (ranged (lowest z d)))
+    ∙ ap₂ (λ (z : ℤ) (d : ℕ). ranged (lowest z d))
     (c.plus-n.ensures
     ∙ ap₂ ◌+ℤ◌
     (ap₂ with_sign c.below.ensures (ap₂ ◌*◌ c.top.ensures.0 c.bottom.ensures.0) ∙ sign_scale a.x.num a.y.den)

@@ -1,33 +1,7 @@
--- `write_derived` meets its contract.
-use Rattle.filewrites.proofs.Written.{kind_length, derived_written}
+-- `write_derived` meets its contract: the kind, the factor, the number of factors, the factors.
 use native.Mathlib.Omega.{arith}
+use Rattle.filewrites.proofs.Written.{kind_length, derived_written}
 use Rattle.filewrites.proofs.write_derived.Goals as goal
-
--- `write_derived` meets its contract.
-pub write_number-i-requires : goal.write_number-i-requires
-write_number-i-requires c =
-    let z = kind_length c.args.x c.args.r in
-    omega arith
-
-pub store-requires : goal.store-requires
-store-requires c =
-    let z = kind_length c.args.x c.args.r in
-    omega arith
-
-pub overflow_add-i : goal.overflow_add-i
-overflow_add-i c =
-    let z = kind_length c.args.x c.args.r in
-    omega arith
-
-pub write_number-j-requires : goal.write_number-j-requires
-write_number-j-requires c =
-    let z = kind_length c.args.x c.args.r in
-    omega arith
-
-pub write_places-requires : goal.write_places-requires
-write_places-requires c =
-    let z = kind_length c.args.x c.args.r in
-    (c.requires.0, omega arith)
 
 pub returns : goal.returns
 returns c =

@@ -4,7 +4,7 @@ use mathlib.Core.List.{List, [], ◌∷◌}
 use Prim.Native.Nat.{ℕ, ◌+◌, ◌≤◌, ◌<◌}
 use native.Mathlib.Omega.{arith}
 use lib.ListN.{drop}
-use Rattle.exponents.specs.Outcome.{TABLE}
+use Rattle.exponents.specs.Outcome.{TABLE, Ok}
 use Rattle.units.specs.declared.Row.{Row}
 use Rattle.tables.specs.Rows.{Admission, stopped, admit, slots, rows_of}
 use Rattle.tables.specs.Held.{Pages, admitted_of}
@@ -22,7 +22,7 @@ pub returns-then-n-gt128 : goal.returns-then-n-gt128
 returns-then-n-gt128 c =
     let a = c.args in
     let is : admit (table_from a.s.now) ≡ stopped TABLE [] = too_many a.s.now c.many-n.result c.many-n.ensures c.if-n-gt128.true in
-    record { is = c.refused.ensures ∙ sym (ap (admitted_of (slots (rows_of (table_from a.s.now)))) is); room = c.requires.0; pages = subst (λ (x : Admission). Pages x a.nums.now a.dens.now a.scales.now a.ranks.now a.based.now) (sym is) tt }
+    record { is = sym (ap (admitted_of (slots (rows_of (table_from a.s.now)))) is); pages = subst (λ (x : Admission). Pages x a.columns.now.nums a.columns.now.dens a.columns.now.scales a.columns.now.ranks a.columns.now.based) (sym is) tt }
 
 pub slots_of-slots-requires : goal.slots_of-slots-requires
 slots_of-slots-requires c = (c.if-n-gt128.false, rows_inside c.args.s.now c.many-n.result c.many-n.ensures c.if-n-gt128.false)
@@ -30,74 +30,44 @@ slots_of-slots-requires c = (c.if-n-gt128.false, rows_inside c.args.s.now c.many
 pub loop-i-init : goal.loop-i-init
 loop-i-init c =
     let rs = rows c.args.s.now c.many-n.result in
-    (omega arith, c.requires.0, admitting_none (slots rs) rs _ _ _ _ _ c.requires.1)
+    admitting_none (slots rs) rs _ _ _ _ _ c.requires
 
 pub read_row-row-requires : goal.read_row-row-requires
 read_row-row-requires c =
     row_inside c.args.s.now c.many-n.result c.many-n.ensures c.if-n-gt128.false c.loop-i.i c.loop-i-test.true
 
-pub admit_row-c-requires : goal.admit_row-c-requires
-admit_row-c-requires c =
+pub admit_row-entered-requires : goal.admit_row-entered-requires
+admit_row-entered-requires c =
     let all : List Row = rows c.args.s.now c.many-n.result in
     let z = c.slots_of-slots in
     let low : c.loop-i.i < c.many-n.result = c.loop-i-test.true in
     let most : c.many-n.result ≤ 128 = c.if-n-gt128.false in
-    (omega arith, omega (arith, len_slots z.result _ z.ensures, slots_few all), c.loop-i.invariant.1)
+    (omega arith, omega (arith, len_slots z.result _ z.ensures, slots_few all))
 
-pub shape_of-nums-then-c-ne0 : goal.shape_of-nums-then-c-ne0
-shape_of-nums-then-c-ne0 c = c.admit_row-c.ensures.room.0 ∙ sym c.requires.0.0
-
-pub shape_of-dens-then-c-ne0 : goal.shape_of-dens-then-c-ne0
-shape_of-dens-then-c-ne0 c = c.admit_row-c.ensures.room.1 ∙ sym c.requires.0.1
-
-pub shape_of-scales-then-c-ne0 : goal.shape_of-scales-then-c-ne0
-shape_of-scales-then-c-ne0 c = c.admit_row-c.ensures.room.2 ∙ sym c.requires.0.2
-
-pub shape_of-ranks-then-c-ne0 : goal.shape_of-ranks-then-c-ne0
-shape_of-ranks-then-c-ne0 c = c.admit_row-c.ensures.room.3 ∙ sym c.requires.0.3
-
-pub shape_of-based-then-c-ne0 : goal.shape_of-based-then-c-ne0
-shape_of-based-then-c-ne0 c = c.admit_row-c.ensures.room.4 ∙ sym c.requires.0.4
-
-pub returns-then-c-ne0 : goal.returns-then-c-ne0
-returns-then-c-ne0 c =
+pub returns-in-Err : goal.returns-in-Err
+returns-in-Err c =
     let all : List Row = rows c.args.s.now c.many-n.result in
     let here : drop c.loop-i.i all ≡ c.read_row-row.result ∷ drop (c.loop-i.i + 1) all = row_here c.args.s.now c.many-n.result c.loop-i.i c.loop-i-test.true ∙ ap (λ (r : Row). r ∷ drop (c.loop-i.i + 1) all) (sym c.read_row-row.ensures) in
-    let a = c.loop-i.invariant.2 in
+    let a = c.loop-i.invariant in
     let t =
     whole c.args.s.now c.many-n.result c.many-n.ensures c.if-n-gt128.false _ _ _ _ _ _
-    (admitting_off (slots all) all _ _ _ _ _ _ _ a _ here c.admit_row-c.result _ _ _ _ _
-    (c.admit_row-c.ensures.joins (slots all) a.ks c.slots_of-slots.ensures a.at a.bases-are a.paged) c.if-c-ne0.true) in
-    record { is = c.refused-then-c-ne0.ensures ∙ t.0; room = c.admit_row-c.ensures.room; pages = t.1 }
+    (admitting_off (slots all) all _ _ _ _ _ _ _ a _ here c.admit_row-entered.result _ _ _ _ _
+    (c.admit_row-entered.ensures.joins (slots all) a.ks c.slots_of-slots.ensures a.at a.bases-are a.paged) _ c.in-Err.is) in
+    record { is = t.0; pages = t.1 }
 
 pub counted-bases-requires : goal.counted-bases-requires
-counted-bases-requires c = c.loop-i.invariant.2.few
+counted-bases-requires c = c.loop-i.invariant.few
 
 pub loop-i-preserved : goal.loop-i-preserved
 loop-i-preserved c =
     let all : List Row = rows c.args.s.now c.many-n.result in
     let here : drop c.loop-i.i all ≡ c.read_row-row.result ∷ drop (c.loop-i.i + 1) all = row_here c.args.s.now c.many-n.result c.loop-i.i c.loop-i-test.true ∙ ap (λ (r : Row). r ∷ drop (c.loop-i.i + 1) all) (sym c.read_row-row.ensures) in
-    let a = c.loop-i.invariant.2 in
+    let a = c.loop-i.invariant in
     let low : c.loop-i.i < c.many-n.result = c.loop-i-test.true in
     let more =
-    admitting_on (slots all) all _ _ _ _ _ _ _ a _ here c.admit_row-c.result _ _ _ _ _
-    (c.admit_row-c.ensures.joins (slots all) a.ks c.slots_of-slots.ensures a.at a.bases-are a.paged) c.if-c-ne0.false c.counted-bases.result c.counted-bases.ensures in
-    (omega arith, c.admit_row-c.ensures.room, more)
-
-pub shape_of-nums : goal.shape_of-nums
-shape_of-nums c = c.loop-i.invariant.1.0 ∙ sym c.requires.0.0
-
-pub shape_of-dens : goal.shape_of-dens
-shape_of-dens c = c.loop-i.invariant.1.1 ∙ sym c.requires.0.1
-
-pub shape_of-scales : goal.shape_of-scales
-shape_of-scales c = c.loop-i.invariant.1.2 ∙ sym c.requires.0.2
-
-pub shape_of-ranks : goal.shape_of-ranks
-shape_of-ranks c = c.loop-i.invariant.1.3 ∙ sym c.requires.0.3
-
-pub shape_of-based : goal.shape_of-based
-shape_of-based c = c.loop-i.invariant.1.4 ∙ sym c.requires.0.4
+    admitting_on (slots all) all _ _ _ _ _ _ _ a _ here c.admit_row-entered.result _ _ _ _ _
+    (c.admit_row-entered.ensures.joins (slots all) a.ks c.slots_of-slots.ensures a.at a.bases-are a.paged) tt (search) c.counted-bases.result c.counted-bases.ensures in
+    more
 
 pub returns : goal.returns
 returns c =
@@ -106,5 +76,5 @@ returns c =
     let n : c.loop-i.i ≡ c.many-n.result = omega arith in
     let t =
     whole s c.many-n.result c.many-n.ensures c.if-n-gt128.false _ _ _ _ _ _
-    (admitting_end (slots all) all _ _ _ _ _ _ _ c.loop-i.invariant.2 (omega (arith, length_run_at row_at 176 c.many-n.result s 0)) c.slots_of-slots.result c.slots_of-slots.ensures) in
-    record { is = ap (λ (x : ℕ). record { slots = c.slots_of-slots.result; len = x; refusal = 0 }) (sym n) ∙ t.0; room = c.loop-i.invariant.1; pages = t.1 }
+    (admitting_end (slots all) all _ _ _ _ _ _ _ c.loop-i.invariant (omega (arith, length_run_at row_at 176 c.many-n.result s 0)) c.slots_of-slots.result c.slots_of-slots.ensures) in
+    record { is = ap (λ (x : ℕ). Ok (record { slots = c.slots_of-slots.result; len = x })) (sym n) ∙ t.0; pages = t.1 }

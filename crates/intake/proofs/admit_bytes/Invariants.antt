@@ -1,9 +1,8 @@
 -- `admit_bytes` meets its contract. The invariant: the rows before i are admitted.
 use mathlib.Core.List.{List}
-use Prim.Native.Nat.{ℕ, ◌-◌, ◌≤◌}
+use Prim.Native.Nat.{ℕ}
 use Rattle.units.specs.declared.Row.{Row}
 use Rattle.tables.specs.Rows.{slots}
-use Rattle.tables.specs.Held.{Room}
 use Rattle.tables.proofs.Admitting.{Admitting}
 use Rattle.wire.specs.Bytes.{run_at}
 use Rattle.wire.specs.Records.{row_at}
@@ -16,7 +15,4 @@ rows s n = run_at row_at 176 n s 0
 
 abbrev pub invariant-loop-i : goal.invariant-loop-i
 invariant-loop-i l =
-    (l.i ≤ l.n) × Room l.nums l.dens l.scales l.ranks l.based × Admitting (slots (rows l.s l.n)) (rows l.s l.n) l.bases l.i l.nums l.dens l.scales l.ranks l.based
-
-abbrev pub decreases-loop-i : goal.decreases-loop-i
-decreases-loop-i l = l.n - l.i
+    Admitting (slots (rows l.s l.n)) (rows l.s l.n) l.bases l.i l.columns.nums l.columns.dens l.columns.scales l.columns.ranks l.columns.based

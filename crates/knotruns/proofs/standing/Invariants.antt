@@ -1,12 +1,7 @@
--- `knotruns::standing` meets its contract. The invariant: the way left leads to the same first.
-use Prim.Native.Nat.{◌+◌, ◌-◌, ◌≤◌}
-use lib.ListN.{drop}
+-- `knotruns::standing` meets its contract. The invariant: the walk stands where its definition does.
 use mathlib.Core.Path.{◌≡◌}
-use Rattle.knotruns.specs.Held.{reached, standing}
+use Rattle.knotruns.specs.Held.{standing}
 use Rattle.knotruns.proofs.standing.Given as goal
 
-abbrev pub invariant-loop-i : goal.invariant-loop-i
-invariant-loop-i l = (l.i ≤ l.at) × (reached l.tolerance l.first (drop (l.i + 1) l.values) (l.at - l.i) ≡ standing l.tolerance l.values l.at)
-
-abbrev pub decreases-loop-i : goal.decreases-loop-i
-decreases-loop-i l = l.at - l.i
+abbrev pub invariant-loop-next : goal.invariant-loop-next
+invariant-loop-next l = l.first ≡ standing l.tolerance l.values l.next-index

@@ -1,6 +1,5 @@
--- `fill` meets its contract.
+-- `fill` meets its contract. The invariant: the conversion at hand and the shelf serve their places, and the values so far are the conversions'.
 use mathlib.Core.Path.{◌≡◌}
-use Prim.Native.Nat.{◌-◌, ◌≤◌}
 use lib.ListN.{length}
 use Rattle.units.specs.declared.Rows.{Rows}
 use Rattle.tables.specs.Held.{Admits}
@@ -8,9 +7,8 @@ use Rattle.knots.proofs.Filling.{Hand, Upto}
 use Rattle.knots.proofs.fill.Given as goal
 
 abbrev pub invariant-loop-i : goal.invariant-loop-i
-invariant-loop-i l =
-    (l.i ≤ l.n) × (length l.values ≡ length l.initial.values) × Hand (λ rows. Admits rows l.t l.nums l.dens l.scales l.ranks l.based) l.target l.knots l.rate l.place l.shelf
-    × ((rows : Rows) → Admits rows l.t l.nums l.dens l.scales l.ranks l.based → Upto rows l.target l.knots l.n l.i l.values)
-
-abbrev pub decreases-loop-i : goal.decreases-loop-i
-decreases-loop-i l = l.n - l.i
+invariant-loop-i l = record {
+  size : length l.values ≡ length l.initial.values;
+  hand : Hand (λ rows. Admits rows l.t l.columns.nums l.columns.dens l.columns.scales l.columns.ranks l.columns.based) l.target l.knots l.rate l.place l.shelf;
+  so_far : (rows : Rows) → Admits rows l.t l.columns.nums l.columns.dens l.columns.scales l.columns.ranks l.columns.based → Upto rows l.target l.knots l.n l.i l.values;
+}

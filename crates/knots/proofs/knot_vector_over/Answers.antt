@@ -1,36 +1,14 @@
--- `knot_vector_over` meets its contract.
+-- `knot_vector_over` meets its contract: a refusal of `fill` is passed on.
 use mathlib.Core.Path.{sym, ◌∙◌}
-use mathlib.Core.Bool.{true, false}
-use native.Mathlib.Omega.{arith}
-use lib.ListN.{length}
-use Rattle.knotruns.proofs.Answers.{left-fault, left-unconverted}
-use Rattle.knots.proofs.Handed.{fault_of, refuses_with, few, vectored, vectored_all}
+use Rattle.std.proofs.lemmas.Result.{err_from_is_err_and}
+use Rattle.exponents.specs.Outcome.{bind}
+use Rattle.knotruns.specs.Knots.{roomy}
+use Rattle.knots.proofs.Handed.{vector_stopped}
 use Rattle.knots.proofs.knot_vector_over.Goals as goal
 
-pub returns-then-faulty : goal.returns-then-faulty
-returns-then-faulty c rows a =
-    let g = c.args in
-    vectored rows g.knots.now g.rule _ _ _ _ _
-    (left-fault (length g.firsts.now) (length g.times.now) g.firsts.now g.times.now _ g.rule.degree g.rule.tolerance (fault_of rows g.rule.unit g.knots.now _ c.many-count.ensures g.rule.degree g.rule.tolerance _ true c.faulty.ensures c.if-faulty.true))
-
-pub fill-r-requires : goal.fill-r-requires
-fill-r-requires c =
-    let f = few c.args.knots.now _ _ _ c.many-count.ensures (sym c.faulty.ensures ∙ c.if-faulty.false) in
-    (c.requires, f.some, f.most, f.inside, f.most)
-
-pub returns-then-r-gt0 : goal.returns-then-r-gt0
-returns-then-r-gt0 c rows a =
-    let g = c.args in
-    let n = c.many-count.ensures in
-    let f = refuses_with rows g.rule.unit g.knots.now _ n _ _ (c.fill-r.ensures.1 rows a) c.if-r-gt0.true in
-    vectored rows g.knots.now g.rule _ _ _ _ _
-    (left-unconverted (length g.firsts.now) (length g.times.now) g.firsts.now g.times.now _ g.rule.degree g.rule.tolerance f.0 _ (fault_of rows g.rule.unit g.knots.now _ n g.rule.degree g.rule.tolerance _ false c.faulty.ensures c.if-faulty.false) f.1 f.2)
-
-pub slice_bounds-knot_vector-end : goal.slice_bounds-knot_vector-end
-slice_bounds-knot_vector-end c =
-    omega (arith, (few c.args.knots.now _ _ _ c.many-count.ensures (sym c.faulty.ensures ∙ c.if-faulty.false)).most)
-
-pub returns : goal.returns
-returns c rows a =
-    let g = c.args in
-    vectored_all rows g.knots.now g.rule _ _ _ _ _ _ c.many-count.ensures _ _ (c.fill-r.ensures.1 rows a) c.if-r-gt0.false c.knot_vector.ensures
+pub returns-in_err-fill : goal.returns-in_err-fill
+unfolding roomy bind
+returns-in_err-fill c rows a =
+    let p = err_from_is_err_and c.from_residual.result c.from_residual.ensures.1 in
+    let e = vector_stopped rows c.args.knots.now _ c.many-count.ensures c.args.rule _ _ (sym c.faulty.ensures ∙ c.if-faulty.false) (c.in_err-fill.ensures.1 rows a) in
+    rw (p.1, p.2) (record { told = rw e; firsts = rw e; times = rw e })

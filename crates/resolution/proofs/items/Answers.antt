@@ -1,9 +1,8 @@
 -- `items` meets its contract. The invariant: the factors of the list before i are resolved.
 use borrow.Author.Rules.{rules}
 use mathlib.Core.Path.{◌≡◌, ap, ◌∙◌}
-use Prim.Native.Nat.{ℕ, ◌+◌, ◌<◌}
 use native.Mathlib.Omega.{arith}
-use lib.ListN.{length, get_or}
+use lib.ListN.{length}
 use lib.Seq.{take_all}
 use Rattle.units.specs.Lists.{list_of}
 use Rattle.units.proofs.Laws.{listed}
@@ -15,37 +14,21 @@ use Rattle.resolution.proofs.Resolving.{items_more, item_of_lem}
 use Rattle.resolution.proofs.items.Goals as goal
 
 pub loop-i-init : goal.loop-i-init
-loop-i-init c = (omega arith, λ ks fs h. h.empty ∙ no_items (view_of ks fs))
-
-pub count_of-c-requires : goal.count_of-c-requires
-count_of-c-requires c = let p = c.requires in (omega arith, p.3, p.5)
-
-pub overflow_cast-r : goal.overflow_cast-r
-overflow_cast-r c =
-    let low : (i : ℕ) → (h : i < c.args.l.len) → get_or c.args.named.now (c.args.from + i) 0 < 128 = λ i h. c.requires.5.3 (c.args.from + i) (omega arith) in
-    let h = low c.loop-i.i (omega arith) in search rules
-
-pub item-requires : goal.item-requires
-item-requires c =
-    let low : (i : ℕ) → (h : i < c.args.l.len) → get_or c.args.named.now (c.args.from + i) 0 < 128 = λ i h. c.requires.5.3 (c.args.from + i) (omega arith) in
-    let h = low c.loop-i.i (omega arith) in
-    (omega (arith, c.requires.2), omega (arith, c.requires.4))
+loop-i-init c ks fs h = h.empty ∙ no_items (view_of ks fs)
 
 pub loop-i-preserved : goal.loop-i-preserved
 loop-i-preserved c =
     let full : length c.args.l.at ≡ 16 = search (rules, unmapped) in
     let o = c.loop-i in
     let l = c.args.l in
-    let d = c.count_of-c in (
-      omega arith,
-      λ ks fs h.
-          items_more (view_of ks fs) (list_of l) o.i nil_factor o.o c.item.result (omega (arith, listed l (full) c.requires.0)) (omega arith) (o.invariant.1 ks fs h)
-          (item_of_lem h o.i (omega arith) (omega arith) nil_factor d.result c.item.result (d.ensures ks fs h.counts) c.item.ensures),
-    )
+    let d = c.count_of-c in
+    λ ks fs h.
+    items_more (view_of ks fs) (list_of l) o.i nil_factor o.o c.item.result (omega (arith, listed l (full) c.requires.0)) (omega arith) (o.invariant ks fs h)
+    (item_of_lem h o.i (omega arith) (omega arith) nil_factor d.result c.item.result (d.ensures ks fs h.counts) c.item.ensures)
 
 pub returns : goal.returns
 returns c ks fs h =
     let full : length c.args.l.at ≡ 16 = search (rules, unmapped) in
     let o = c.loop-i in
     let l = c.args.l in
-    o.invariant.1 ks fs h ∙ ap (pack_items (view_of ks fs)) (take_all o.i (list_of l) (omega (arith, listed l (full) c.requires.0)))
+    o.invariant ks fs h ∙ ap (pack_items (view_of ks fs)) (take_all o.i (list_of l) (omega (arith, listed l (full) c.requires.0)))

@@ -1,7 +1,6 @@
 -- `items` meets its contract. The invariant: the factors of the list before i are resolved.
 use mathlib.Core.Path.{◌≡◌}
 use mathlib.Core.List.{List}
-use Prim.Native.Nat.{◌-◌, ◌≤◌}
 use lib.ListN.{take}
 use Rattle.units.specs.declared.Factor.{Factor}
 use Rattle.units.specs.Lists.{list_of}
@@ -12,8 +11,4 @@ use Rattle.resolution.proofs.items.Given as goal
 
 abbrev pub invariant-loop-i : goal.invariant-loop-i
 invariant-loop-i l =
-    (l.i ≤ l.m)
-    × ((ks : List Facts) (fs : List Factor) → Fills ks fs l.n l.l l.from l.initial.o l.named l.keys l.scales l.ranks l.based → l.o ≡ pack_items (view_of ks fs) (take l.i (list_of l.l)))
-
-abbrev pub decreases-loop-i : goal.decreases-loop-i
-decreases-loop-i l = l.m - l.i
+    (ks : List Facts) (fs : List Factor) → Fills ks fs l.n l.l l.from l.initial.o l.named l.keys l.columns.scales l.columns.ranks l.columns.based → l.o ≡ pack_items (view_of ks fs) (take l.i (list_of l.l))

@@ -6,7 +6,4 @@ use Rattle.stream.specs.Stream.{arguments, framed}
 use Rattle.stream.proofs.framed.Given as goal
 
 abbrev pub invariant-loop-k : goal.invariant-loop-k
-invariant-loop-k l = (l.k ≤ l.n) × (l.at ≤ length l.s) × (arguments l.code l.k (l.n - l.k) l.s l.at ≡ framed l.code l.s l.from)
-
-abbrev pub decreases-loop-k : goal.decreases-loop-k
-decreases-loop-k l = l.n - l.k
+invariant-loop-k l = (l.at ≤ length l.s) × (arguments l.code l.k (l.n - l.k) l.s l.at ≡ framed l.code l.s l.from)

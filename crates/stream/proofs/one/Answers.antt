@@ -4,18 +4,19 @@ use Rattle.stream.specs.Stream.{answered}
 use Rattle.stream.proofs.Answering.{reply_short, one_end, one_written}
 use Rattle.stream.proofs.one.Goals as goal
 
-pub overflow_cast-r : goal.overflow_cast-r
-overflow_cast-r c = omega (arith, reply_short _ _ c.requires _ _ c.answer-r.ensures.0)
+pub overflow_cast-len : goal.overflow_cast-len
+overflow_cast-len c = omega (arith, reply_short _ _ c.requires _ _ c.answer-r.ensures.0 _ c.unwrap_or-len.ensures)
 
 pub overflow_add-result : goal.overflow_add-result
-overflow_add-result c = omega (arith, reply_short _ _ c.requires _ _ c.answer-r.ensures.0)
+overflow_add-result c = omega (arith, reply_short _ _ c.requires _ _ c.answer-r.ensures.0 _ c.unwrap_or-len.ensures)
 
 pub returns : goal.returns
 unfolding answered
 returns c =
     let pre = c.requires in
-    let said = c.answer-r.ensures.0 in (
-      one_end _ _ pre _ _ said,
-      omega (arith, reply_short _ _ pre _ _ said),
-      one_written _ _ pre _ _ said _ _ _ c.answer-r.ensures.1 c.write_u32.ensures.0 c.write_u32-2.ensures.0,
+    let said = c.answer-r.ensures.0 in
+    let len = c.unwrap_or-len.ensures in (
+      one_end _ _ pre _ _ said _ len,
+      omega (arith, reply_short _ _ pre _ _ said _ len),
+      one_written _ _ pre _ _ said _ len _ c.number_of.ensures _ _ _ c.answer-r.ensures.1 c.write_u32.ensures.0 c.write_u32-2.ensures.0,
     )

@@ -1,4 +1,4 @@
--- `write_rows` meets its contract. The invariant: the first i rows are stored, 176 bytes each.
+-- `write_rows` meets its contract.
 use borrow.Author.Rules.{rules}
 use mathlib.Core.Path.{◌≡◌, refl, ◌∙◌}
 use native.Mathlib.Omega.{arith}
@@ -11,7 +11,7 @@ use Rattle.wiretables.proofs.write_rows.Goals as goal
 
 pub loop-i-init : goal.loop-i-init
 unfolding run_bytes
-loop-i-init c = (omega arith, refl, refl, refl)
+loop-i-init c = (refl, refl, refl)
 
 pub loop-i-preserved : goal.loop-i-preserved
 loop-i-preserved c =
@@ -19,13 +19,12 @@ loop-i-preserved c =
     let k = c.loop-i in
     let p = c.put.ensures in
     let z = sized in (
+      p.0 ∙ run-turn row_bytes 176 k.i c.args.rows.at _ (omega arith) k.invariant.2 _ _ _ k.invariant.0,
       omega arith,
-      omega arith,
-      p.0 ∙ run-turn row_bytes 176 k.i c.args.rows.at _ (omega arith) k.invariant.3 _ _ _ k.invariant.2,
-      run_length row_bytes 176 k.i c.args.rows.at _ (omega arith) k.invariant.3 p.2,
+      run_length row_bytes 176 k.i c.args.rows.at _ (omega arith) k.invariant.2 p.2,
     )
 
 pub returns : goal.returns
 returns c =
     let n : c.loop-i.i ≡ c.args.n = omega arith in
-    rw (← n) (c.loop-i.invariant.2, c.loop-i.invariant.1, c.loop-i.invariant.3)
+    rw (← n) c.loop-i.invariant

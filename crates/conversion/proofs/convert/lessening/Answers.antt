@@ -1,47 +1,46 @@
 -- `lessening` meets its contract.
 use mathlib.Core.Path.{sym, ◌∙◌, ap}
-use Rattle.exponents.proofs.Holds.{bind_given}
+use Rattle.exponents.proofs.Handed.{handed_on}
+use Rattle.exponents.proofs.Holds.{bind_given, bind_refused}
+use Rattle.exponents.proofs.Numbers.{apply_answers, apply_refuses}
 use Rattle.floats.specs.Power.{tally}
 use Rattle.tables.specs.Rules.{counted}
 use Rattle.tables.specs.Lists.{base}
-use Rattle.tables.specs.Held.{tallied_of, rules_by}
+use Rattle.tables.specs.Held.{pack_exps, rules_by}
 use Rattle.canonical.proofs.Judged.{formed, unformed}
-use Rattle.reduction.proofs.Handed.{exps_given, exps_refused}
 use Rattle.common.specs.Held.{lessen}
 use Rattle.common.proofs.Resolved.{lessen_resolved}
 use Rattle.conversion.specs.Conversion.{against}
-use Rattle.conversion.proofs.Rating.{scales_refused}
-use Rattle.conversion.proofs.Converting.{stops, own_range, target_stops}
+use Rattle.conversion.specs.Held.{tallied_by}
+use Rattle.conversion.proofs.Converting.{own_range, target_stops}
 use Rattle.conversion.proofs.convert.lessening.Goals as goal
 
-pub returns-then-o-ne0 : goal.returns-then-o-ne0
-returns-then-o-ne0 c v fs gs cs lends rl rm rc z =
-    scales_refused z c.no_scales.ensures c.if-o-ne0.true
-    (stops _ _ (unformed v (lessen v.order fs cs) c.lessened-o.result (c.lessened-o.ensures v fs cs rl rc) c.if-o-ne0.true))
+pub returns-in_err-own : goal.returns-in_err-own
+returns-in_err-own c v fs gs cs lends rl rm rc x =
+    ap (λ o. tallied_by o x) (handed_on _ _ c.from_residual.ensures.1)
+    ∙ sym (bind_refused _ (unformed v (lessen v.order fs cs) _ (c.in_err-own.ensures v fs cs rl rc)))
 
-pub returns-then-a-ne0 : goal.returns-then-a-ne0
-returns-then-a-ne0 c v fs gs cs lends rl rm rc w =
+pub returns-in-Ok : goal.returns-in-Ok
+returns-in-Ok c v fs gs cs lends rl rm rc x =
     let R = counted (rules_by v c.args.n) in
-    let o = formed v (lessen v.order fs cs) c.lessened-o.result (lessen_resolved v fs cs rl rc) (c.lessened-o.ensures v fs cs rl rc) c.if-o-ne0.false in
-    scales_refused w c.no_scales-then-a-ne0.ensures c.if-a-ne0.true
-    (own_range R o.answer (lessen v.order gs cs) (tally w 0) _ (exps_refused (base R.bases o.answer) c.base_of-a.result (c.base_of-a.ensures v o.answer lends o.list) c.if-a-ne0.true)
-    ∙ sym (ap tallied_of (bind_given _ o.is)))
+    let o = formed v (lessen v.order fs cs) _ (lessen_resolved v fs cs rl rc) (c.in_ok-own.ensures v fs cs rl rc) in
+    let t = formed v (lessen v.order gs cs) _ (lessen_resolved v gs cs rm rc) (c.in-Ok.ensures v gs cs rm rc) in
+    c.apart.ensures v o.answer t.answer lends o.list t.list x
+    ∙ ap (λ target. against R o.answer target (tally x 0)) (sym t.is)
+    ∙ sym (bind_given _ o.is)
 
-pub returns-then-t-ne0 : goal.returns-then-t-ne0
-returns-then-t-ne0 c v fs gs cs lends rl rm rc w =
+pub returns-in_err-base_of-in-Err : goal.returns-in_err-base_of-in-Err
+returns-in_err-base_of-in-Err c v fs gs cs lends rl rm rc x =
     let R = counted (rules_by v c.args.n) in
-    let o = formed v (lessen v.order fs cs) c.lessened-o.result (lessen_resolved v fs cs rl rc) (c.lessened-o.ensures v fs cs rl rc) c.if-o-ne0.false in
-    let a = exps_given (base R.bases o.answer) c.base_of-a.result (c.base_of-a.ensures v o.answer lends o.list) c.if-a-ne0.false in
-    scales_refused w c.no_scales-then-t-ne0.ensures c.if-t-ne0.true
-    (target_stops R o.answer (lessen v.order gs cs) (tally w 0) a.exps a.is _
-    (unformed v (lessen v.order gs cs) c.lessened-t.result (c.lessened-t.ensures v gs cs rm rc) c.if-t-ne0.true)
-    ∙ sym (ap tallied_of (bind_given _ o.is)))
+    let o = formed v (lessen v.order fs cs) _ (lessen_resolved v fs cs rl rc) (c.in_ok-own.ensures v fs cs rl rc) in
+    ap (λ o. tallied_by o x) (handed_on _ _ c.from_residual-in_err-base_of-in-Err.ensures.1)
+    ∙ own_range R o.answer (lessen v.order gs cs) (tally x 0) _ (apply_refuses pack_exps (base R.bases o.answer) _ (sym (c.in_err-base_of-in-Err.ensures v o.answer lends o.list)))
+    ∙ sym (bind_given _ o.is)
 
-pub returns : goal.returns
-returns c v fs gs cs lends rl rm rc w =
+pub returns-in_ok-base_of-in-Err : goal.returns-in_ok-base_of-in-Err
+returns-in_ok-base_of-in-Err c v fs gs cs lends rl rm rc x =
     let R = counted (rules_by v c.args.n) in
-    let o = formed v (lessen v.order fs cs) c.lessened-o.result (lessen_resolved v fs cs rl rc) (c.lessened-o.ensures v fs cs rl rc) c.if-o-ne0.false in
-    let t = formed v (lessen v.order gs cs) c.lessened-t.result (lessen_resolved v gs cs rm rc) (c.lessened-t.ensures v gs cs rm rc) c.if-t-ne0.false in
-    c.apart.ensures v o.answer t.answer lends o.list t.list w
-    ∙ ap (λ target. tallied_of (against R o.answer target (tally w 0))) (sym t.is)
-    ∙ sym (ap tallied_of (bind_given _ o.is))
+    let o = formed v (lessen v.order fs cs) _ (lessen_resolved v fs cs rl rc) (c.in_ok-own.ensures v fs cs rl rc) in
+    let a = apply_answers pack_exps (base R.bases o.answer) _ (sym (c.in_ok-base_of-in-Err.ensures v o.answer lends o.list)) in
+    target_stops R o.answer (lessen v.order gs cs) (tally x 0) a.answer a.is _ (unformed v (lessen v.order gs cs) _ (c.in-Err.ensures v gs cs rm rc))
+    ∙ sym (bind_given _ o.is)

@@ -1,34 +1,25 @@
 -- `rescaled` meets its contract.
 use mathlib.Core.Path.{sym, ap, ◌∙◌}
 use native.Mathlib.Omega.{arith}
+use Rattle.exponents.specs.Outcome.{Ok}
+use Rattle.exponents.proofs.Handed.{handed_on}
 use Rattle.floats.specs.Power.{tally}
-use Rattle.tables.specs.Rules.{scale_by, counted}
-use Rattle.tables.specs.declared.scales.Tallied.TheVariants.{Value}
+use Rattle.tables.specs.Rules.{counted}
 use Rattle.tables.specs.Held.{rules_by}
-use Rattle.tables.proofs.Forgetting.{tally_refuses}
-use Rattle.reduction.proofs.Resolved.{within_value}
-use Rattle.conversion.proofs.Rating.{refuses_some, scales_value, scales_refused}
-use Rattle.conversion.proofs.Converting.{own_refused, target_refused, rescaled_given}
+use Rattle.conversion.specs.Held.{scaled_by, tallied_by}
+use Rattle.conversion.proofs.Converting.{target_refused, rescaled_given}
 use Rattle.conversion.proofs.convert.rescaled.Goals as goal
 
+pub returns-in_err-target : goal.returns-in_err-target
+returns-in_err-target c v n fs ts e rt x =
+    ap (λ o. tallied_by o x) (handed_on _ _ c.from_residual.ensures.1)
+    ∙ target_refused (counted (rules_by v n)) fs ts (tally x 0) c.args.own e _ (sym (c.in_err-target.ensures.1 v ts rt))
+
 pub overflow_add-result : goal.overflow_add-result
-overflow_add-result c =
-    omega (arith, within_value 1952 _ _ c.in-Value-b.is c.counted_scale-b.ensures.0, within_value 3904 _ _ c.in-Value.is c.requires)
+overflow_add-result c = omega (arith, c.in_ok-target.ensures.0, c.requires)
 
-pub returns-in-Value-b : goal.returns-in-Value-b
-returns-in-Value-b c v n own ts e rt x =
-    scales_value c.in-Value.own c.in-Value-b.target x
-    ∙ ap Value (ap (tally _) (omega arith))
-    ∙ rescaled_given (counted (rules_by v n)) own ts (tally x 0) _ (sym e ∙ c.in-Value.is) _ (sym (c.counted_scale-b.ensures.1 v ts rt) ∙ c.in-Value-b.is)
-
-pub returns-in-Refused-b : goal.returns-in-Refused-b
-returns-in-Refused-b c v n own ts e rt x =
-    let R = counted (rules_by v n) in
-    let r = tally_refuses (scale_by R ts) _ (sym (c.counted_scale-b.ensures.1 v ts rt) ∙ c.in-Refused-b.is) in
-    scales_refused x c.no_scales.ensures (refuses_some r) (target_refused R own ts (tally x 0) _ (sym e ∙ c.in-Value.is) _ (sym (c.counted_scale-b.ensures.1 v ts rt) ∙ c.in-Refused-b.is))
-
-pub returns-in-Refused : goal.returns-in-Refused
-returns-in-Refused c v n own ts e rt x =
-    let R = counted (rules_by v n) in
-    let h = sym e ∙ c.in-Refused.is in
-    scales_refused x c.no_scales-in-Refused.ensures (refuses_some (tally_refuses (scale_by R own) _ h)) (own_refused R own ts (tally x 0) _ h)
+pub returns : goal.returns
+unfolding scaled_by
+returns c v n fs ts e rt x =
+    ap Ok (ap (tally _) (omega arith))
+    ∙ rescaled_given (counted (rules_by v n)) fs ts (tally x 0) c.args.own e _ (sym (c.in_ok-target.ensures.1 v ts rt))

@@ -1,13 +1,12 @@
--- `multiple` meets its contract. The invariant: what is left is the common multiple of m and the denominators from i on.
-use mathlib.Core.Path.{◌≡◌}
-use Prim.Native.Nat.{◌≤◌, ◌-◌}
-use lib.ListN.{drop}
+-- What is left is the common multiple of m and the denominators from x on.
+use Rattle.std.proofs.Common.{◌≡◌, ◌≤◌, drop}
+use Rattle.exponents.specs.Fractions.{most}
 use Rattle.keys.specs.Key as spec
-use Rattle.keys.proofs.KeyLaws.{Denominator}
 use Rattle.keys.proofs.making.multiple.Given as goal
 
-abbrev pub invariant-loop-i : goal.invariant-loop-i
-invariant-loop-i l = (l.i ≤ 16) × Denominator l.m × (spec.multiple 1 l.d ≡ spec.multiple l.m (drop l.i l.d))
-
-abbrev pub decreases-loop-i : goal.decreases-loop-i
-decreases-loop-i l = 16 - l.i
+abbrev pub invariant-loop-x : goal.invariant-loop-x
+invariant-loop-x l = record {
+  least : 1 ≤ l.m;
+  small : l.m ≤ most;
+  so_far : spec.multiple l.m (drop l.x-index l.x-items) ≡ spec.multiple 1 l.x-items;
+}

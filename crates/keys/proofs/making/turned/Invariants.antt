@@ -1,12 +1,7 @@
--- `turned` meets its contract. The invariant: the numbers before i are zero, so that those from i on decide.
-use mathlib.Core.Path.{◌≡◌}
-use Prim.Native.Nat.{◌≤◌, ◌-◌}
-use lib.ListN.{drop}
+-- The numbers before x are zero, so that those from x on decide.
+use Rattle.std.proofs.Common.{◌≡◌, drop}
 use Rattle.keys.specs.Key as spec
 use Rattle.keys.proofs.making.turned.Given as goal
 
-abbrev pub invariant-loop-i : goal.invariant-loop-i
-invariant-loop-i l = (l.i ≤ 16) × (spec.below (spec.wholes l.m l.d) ≡ spec.below (spec.wholes l.m (drop l.i l.d)))
-
-abbrev pub decreases-loop-i : goal.decreases-loop-i
-decreases-loop-i l = 16 - l.i
+abbrev pub invariant-loop-x : goal.invariant-loop-x
+invariant-loop-x l = spec.below (spec.wholes l.m (drop l.x-index l.x-items)) ≡ spec.below (spec.wholes l.m l.x-items)

@@ -11,7 +11,7 @@ use Rattle.exponents.proofs.Places.{part_long, part_at}
 use Rattle.keys.proofs.order.has_more.Goals as goal
 
 pub loop-i-init : goal.loop-i-init
-loop-i-init c = (omega arith, refl)
+loop-i-init c = refl
 
 pub returns-then-keys-a-ne0 : goal.returns-then-keys-a-ne0
 returns-then-keys-a-ne0 c =
@@ -20,7 +20,7 @@ returns-then-keys-a-ne0 c =
     let k = c.args.keys.now in
     let z = part_long k c.args.a c.requires.1 in
     let e = part_at k c.args.a l.i (pos 0) (omega arith) in
-    more_here (key_at c.args.a k) l.i (omega arith) (λ q. c.if-keys-a-ne0.true (ap (of_z w64) (sym e ∙ q))) ∙ sym l.invariant.1
+    more_here (key_at c.args.a k) l.i (omega arith) (λ q. c.if-keys-a-ne0.true (ap (of_z w64) (sym e ∙ q))) ∙ sym l.invariant
 
 pub loop-i-preserved : goal.loop-i-preserved
 loop-i-preserved c =
@@ -29,7 +29,7 @@ loop-i-preserved c =
     let k = c.args.keys.now in
     let z = part_long k c.args.a c.requires.1 in
     let e = part_at k c.args.a l.i (pos 0) (omega arith) in
-    (omega arith, l.invariant.1 ∙ more_on (key_at c.args.a k) l.i (omega arith) (e ∙ bits-zero (record { sfits = c.t9-1.given }) c.if-keys-a-ne0.false))
+    l.invariant ∙ more_on (key_at c.args.a k) l.i (omega arith) (e ∙ bits-zero (record { sfits = omega arith }) c.if-keys-a-ne0.false)
 
 pub returns : goal.returns
 unfolding more
@@ -37,4 +37,4 @@ returns c =
     let s = c in
     let l = c.loop-i in
     let z = part_long c.args.keys.now c.args.a c.requires.1 in
-    sym (l.invariant.1 ∙ ap more (drop_of_length-le (key_at c.args.a c.args.keys.now) {i = l.i} (omega arith)))
+    sym (l.invariant ∙ ap more (drop_of_length-le (key_at c.args.a c.args.keys.now) {i = l.i} (omega arith)))

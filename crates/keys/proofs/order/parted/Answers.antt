@@ -6,11 +6,11 @@ use Prim.Native.Nat.{ℕ, ◌+◌, ◌<◌, ◌≤◌}
 use native.Mathlib.Omega.{arith}
 use lib.IntN.{ℤ, pos}
 use lib.ListN.{get_or, length}
-use lib.Signed.{lt_z}
+use Rattle.std.specs.Ordering.{int_cmp}
 use mir.Syntax.{w64}
 use mir.Val.{SFits, to_z, of_z}
 use Rattle.keys.specs.Held.{key_at}
-use Rattle.keys.proofs.KeyOrder.{Parted, first_none, second_none, both-less, both-more}
+use Rattle.keys.proofs.KeyOrder.{Parted, first_none, second_none, both}
 use Rattle.exponents.proofs.Places.{part_long, part_at}
 use Rattle.keys.proofs.order.parted.Goals as goal
 
@@ -39,7 +39,7 @@ known_of keys a b p s x y =
 pub returns-then-has_more : goal.returns-then-has_more
 returns-then-has_more c =
     let a = c.args in
-    let k = known_of a.keys.now a.a a.b a.p c.requires (record { sfits = c.x-1.given }) (record { sfits = c.y-1.given }) in
+    let k = known_of a.keys.now a.a a.b a.p c.requires (record { sfits = omega arith }) (record { sfits = omega arith }) in
     let first = read a.keys.now a.a a.p c.requires.0 in
     let second = read a.keys.now a.b a.p c.requires.0 in
     first_none k (ap (of_z w64) first ∙ c.if-x-eq0.true) true (sym c.if-has_more.true ∙ c.has_more.ensures)
@@ -47,7 +47,7 @@ returns-then-has_more c =
 pub returns-else-has_more : goal.returns-else-has_more
 returns-else-has_more c =
     let a = c.args in
-    let k = known_of a.keys.now a.a a.b a.p c.requires (record { sfits = c.x-1.given }) (record { sfits = c.y-1.given }) in
+    let k = known_of a.keys.now a.a a.b a.p c.requires (record { sfits = omega arith }) (record { sfits = omega arith }) in
     let first = read a.keys.now a.a a.p c.requires.0 in
     let second = read a.keys.now a.b a.p c.requires.0 in
     first_none k (ap (of_z w64) first ∙ c.if-x-eq0.true) false (sym c.if-has_more.false ∙ c.has_more.ensures)
@@ -55,7 +55,7 @@ returns-else-has_more c =
 pub returns-then-has_more-2 : goal.returns-then-has_more-2
 returns-then-has_more-2 c =
     let a = c.args in
-    let k = known_of a.keys.now a.a a.b a.p c.requires (record { sfits = c.x-1.given }) (record { sfits = c.y-1.given }) in
+    let k = known_of a.keys.now a.a a.b a.p c.requires (record { sfits = omega arith }) (record { sfits = omega arith }) in
     let first = read a.keys.now a.a a.p c.requires.0 in
     let second = read a.keys.now a.b a.p c.requires.0 in
     second_none k (ap (of_z w64) second ∙ c.if-y-eq0.true) true (sym c.if-has_more-2.true ∙ c.has_more-then-y-eq0.ensures)
@@ -63,25 +63,17 @@ returns-then-has_more-2 c =
 pub returns-else-has_more-2 : goal.returns-else-has_more-2
 returns-else-has_more-2 c =
     let a = c.args in
-    let k = known_of a.keys.now a.a a.b a.p c.requires (record { sfits = c.x-1.given }) (record { sfits = c.y-1.given }) in
+    let k = known_of a.keys.now a.a a.b a.p c.requires (record { sfits = omega arith }) (record { sfits = omega arith }) in
     let first = read a.keys.now a.a a.p c.requires.0 in
     let second = read a.keys.now a.b a.p c.requires.0 in
     second_none k (ap (of_z w64) second ∙ c.if-y-eq0.true) false (sym c.if-has_more-2.false ∙ c.has_more-then-y-eq0.ensures)
 
-pub returns-then-x-y : goal.returns-then-x-y
-returns-then-x-y c =
+pub returns : goal.returns
+returns c =
     let a = c.args in
-    let k = known_of a.keys.now a.a a.b a.p c.requires (record { sfits = c.x-1.given }) (record { sfits = c.y-1.given }) in
+    let k = known_of a.keys.now a.a a.b a.p c.requires (record { sfits = omega arith }) (record { sfits = omega arith }) in
     let first = read a.keys.now a.a a.p c.requires.0 in
     let second = read a.keys.now a.b a.p c.requires.0 in
-    both-less k (λ e. c.if-x-eq0.false (ap (of_z w64) (sym first) ∙ e)) (λ e. c.if-y-eq0.false (ap (of_z w64) (sym second) ∙ e))
-    (ap₂ (λ n m. lt_z (to_z w64 (of_z w64 n)) (to_z w64 (of_z w64 m))) first second ∙ c.if-x-y.true)
-
-pub returns-else-x-y : goal.returns-else-x-y
-returns-else-x-y c =
-    let a = c.args in
-    let k = known_of a.keys.now a.a a.b a.p c.requires (record { sfits = c.x-1.given }) (record { sfits = c.y-1.given }) in
-    let first = read a.keys.now a.a a.p c.requires.0 in
-    let second = read a.keys.now a.b a.p c.requires.0 in
-    both-more k (λ e. c.if-x-eq0.false (ap (of_z w64) (sym first) ∙ e)) (λ e. c.if-y-eq0.false (ap (of_z w64) (sym second) ∙ e))
-    (ap₂ (λ n m. lt_z (to_z w64 (of_z w64 n)) (to_z w64 (of_z w64 m))) first second ∙ c.if-x-y.false)
+    c.cmp.ensures
+    ∙ sym (ap₂ (λ n m. int_cmp (to_z w64 (of_z w64 n)) (to_z w64 (of_z w64 m))) first second)
+    ∙ both k (λ e. c.if-x-eq0.false (ap (of_z w64) (sym first) ∙ e)) (λ e. c.if-y-eq0.false (ap (of_z w64) (sym second) ∙ e))

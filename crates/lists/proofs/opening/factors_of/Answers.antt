@@ -9,18 +9,18 @@ use Rattle.lists.proofs.Given.{pushed, all_factors}
 use Rattle.lists.proofs.opening.factors_of.Goals as goal
 
 pub loop-i-init : goal.loop-i-init
-loop-i-init c = (omega arith, c.empty-o.ensures)
+loop-i-init c = c.empty-o.ensures
 
 pub loop-i-preserved : goal.loop-i-preserved
 loop-i-preserved c =
     let items-full : length c.args.l.at ≡ 16 = search (rules, unmapped) in
     let k = c.loop-i in
     let full = items-full in
-    (omega arith, pushed c.args.l.at k.i _ k.o (omega arith) (omega arith) k.invariant.1)
+    pushed c.args.l.at k.i _ k.o (omega arith) (omega arith) k.invariant
 
 pub returns : goal.returns
 returns c v fs r =
     let k = c.loop-i in
     let n = len_items v fs c.args.l r.is in
     let same = c.capped-n.ensures.1 (omega (arith, r.short)) in
-    all_factors v fs c.args.l r.is k.i k.o (omega arith) k.invariant.1
+    all_factors v fs c.args.l r.is k.i k.o (omega arith) k.invariant

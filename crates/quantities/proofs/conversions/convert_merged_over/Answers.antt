@@ -1,8 +1,9 @@
 -- `convert_merged_over` meets its contract.
-use mathlib.Core.Path.{sym, ap, ◌∙◌}
+use mathlib.Core.Path.{sym, ◌∙◌}
 use mathlib.Core.List.{List}
 use lib.Ieee.{Float}
 use Rattle.exponents.specs.Outcome.{Outcome, apply}
+use Rattle.exponents.proofs.Handed.{handed_on}
 use Rattle.units.specs.declared.Factor.{Factor}
 use Rattle.units.specs.declared.Quantity.{Quantity}
 use Rattle.units.specs.declared.Rows.{Rows}
@@ -10,26 +11,24 @@ use Rattle.tables.specs.Rows.{Facts}
 use Rattle.tables.specs.Rules.{rules_in}
 use Rattle.lists.proofs.Ready.{ready, stopped, goes, seen}
 use Rattle.conversion.specs.Conversion.{cancelling}
-use Rattle.values.specs.Quantities.{fresh, answered_of}
+use Rattle.values.specs.Quantities.{fresh}
 use Rattle.quantities.specs.Calls.{convert_merged}
 use Rattle.quantities.proofs.Ready.{forth}
-use Rattle.values.proofs.Answered.{unanswered}
 use Rattle.quantities.proofs.conversions.convert_merged_over.Goals as goal
 
--- `convert_merged_over` meets its contract.
 abbrev work : Rows → Float → List Facts → List Factor → List Factor → Outcome Quantity
 work t y ks fs gs = apply (λ v. fresh v gs) (cancelling (rules_in t ks) fs gs y)
 
-pub returns-then-o-ne0 : goal.returns-then-o-ne0
+pub returns-in_err-o : goal.returns-in_err-o
 unfolding convert_merged
-returns-then-o-ne0 c rows target o =
+returns-in_err-o c rows target o =
     let s = c.args in
-    c.refused.ensures ∙ unanswered _ _ (stopped rows s.q.unit target s.o o.is (work rows s.q.value) c.if-o-ne0.true)
+    handed_on _ _ c.from_residual.ensures.1 ∙ sym (stopped rows s.q.unit target (work rows s.q.value) _ (sym c.in_err-o.was ∙ o.is))
 
 pub returns : goal.returns
 unfolding convert_merged
 returns c rows target o =
     let s = c.args in
-    let r = ready rows s.q.unit target s.o o.is c.if-o-ne0.false in
-    let e = forth r s.nums.now s.dens.now o.tells s.q.value c.cancelling-c.result (λ R. cancelling R) c.cancelling-c.ensures in
-    c.in_target.ensures (seen r) r.gs (cancelling (rules_in rows r.ks) r.fs r.gs s.q.value) r.second e ∙ ap answered_of (sym (goes r (work rows s.q.value)))
+    let r = ready rows s.q.unit target c.in_ok-o.o (sym c.in_ok-o.was ∙ o.is) in
+    let e = forth r s.bases.nums.now s.bases.dens.now o.tells s.q.value c.cancelling-c.result (λ R. cancelling R) c.cancelling-c.ensures in
+    c.in_target.ensures (seen r) r.gs (cancelling (rules_in rows r.ks) r.fs r.gs s.q.value) r.second e ∙ sym (goes r (work rows s.q.value))

@@ -1,26 +1,16 @@
--- `all_zero` meets its contract. The invariant: the places before i are zero.
-use mathlib.Core.Path.{refl, sym, ◌∙◌}
-use native.Mathlib.Omega.{arith}
-use Rattle.reduction.proofs.Compared.{zero_on, zero_off, zero_end}
+-- `all_zero` meets its contract.
+use Rattle.std.proofs.Common.{rules, tests, refl, ◌∙◌, ◌&&◌}
+use Rattle.std.proofs.lemmas.Iterator.{YieldsList-from_slice}
+use Rattle.std.proofs.lemmas.Iterator.Search.{all_from_yields_List}
+use Rattle.std.proofs.lemmas.List.Recursion.{same_from_clauses}
+use Rattle.std.specs.List.{list_all}
+use Rattle.exponents.specs.declared.Exponent.{Exponent}
+use Rattle.exponents.specs.Fractions.{nought, same}
+use Rattle.canonical.specs.Canonical.{all_nought}
 use Rattle.reduction.proofs.bases.all_zero.Goals as goal
 
-pub loop-i-init : goal.loop-i-init
-loop-i-init c = (omega arith, refl)
-
-pub returns-then-not-same : goal.returns-then-not-same
-returns-then-not-same c =
-    let k = c.loop-i in
-    let a = c.args in
-    zero_off a.a k.i k.invariant.1 _ (omega arith) (sym c.same.ensures ∙ c.if-not-same.true)
-
-pub loop-i-preserved : goal.loop-i-preserved
-loop-i-preserved c =
-    let k = c.loop-i in
-    let a = c.args in
-    (omega arith, zero_on a.a k.i k.invariant.1 _ (omega arith) (sym c.same.ensures ∙ c.if-not-same.false))
-
 pub returns : goal.returns
+unfolding all_nought
 returns c =
-    let k = c.loop-i in
-    let a = c.args in
-    zero_end a.a k.i k.invariant.1 (omega arith)
+    all_from_yields_List (λ (x : Exponent). same x nought) _ _ c.all.result c.all.ensures.ran (YieldsList-from_slice c.args.a cc) (λ x b q k. search (rules, tests))
+    ∙ same_from_clauses (list_all (λ (x : Exponent). same x nought)) all_nought (λ x r. same x nought && r) refl (λ _ _. refl) (λ _ _. refl) c.args.a

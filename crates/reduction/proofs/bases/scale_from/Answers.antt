@@ -1,13 +1,16 @@
 -- `scale_from` meets its contract: the count is left.
 use mathlib.Core.Path.{ap, ◌∙◌}
+use Rattle.exponents.proofs.Handed.{handed_on}
+use Rattle.exponents.specs.Outcome.{apply}
 use Rattle.floats.specs.Power.{tally}
-use Rattle.tables.specs.Scale.{doubles, counting, scale_from_lem}
-use Rattle.tables.specs.Held.{scaled_of, plain_of}
-use Rattle.tables.proofs.Forgetting.{forget_scale, plain-of}
+use Rattle.tables.specs.Scale.{doubles}
+use Rattle.tables.proofs.Forgetting.{plain, forget_scale}
 use Rattle.reduction.proofs.Resolved.{sizes}
 use Rattle.reduction.proofs.bases.scale_from.Goals as goal
 
+pub returns-in_err-t : goal.returns-in_err-t
+returns-in_err-t c v fs r =
+    handed_on _ _ c.from_residual.ensures.1 ∙ (ap (apply plain) (c.in_err-t.ensures.1 v fs r) ∙ forget_scale doubles (sizes v) (tally c.args.start 0) fs)
+
 pub returns : goal.returns
-returns c v fs r =
-    let s = tally c.args.start 0 in
-    c.uncounted.ensures ∙ ap plain_of (c.counted_scale.ensures.1 v fs r) ∙ plain-of (scale_from_lem (counting doubles) (sizes v) s fs) ∙ ap scaled_of (forget_scale doubles (sizes v) s fs)
+returns c v fs r = ap (apply plain) (c.in_ok-t.ensures.1 v fs r) ∙ forget_scale doubles (sizes v) (tally c.args.start 0) fs

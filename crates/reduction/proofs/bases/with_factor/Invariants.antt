@@ -2,7 +2,7 @@
 use mathlib.Core.Path.{◌≡◌}
 use mathlib.Core.Bool.{false}
 use mathlib.Core.List.{List}
-use Prim.Native.Nat.{ℕ, ◌-◌, ◌≤◌}
+use Prim.Native.Nat.{ℕ}
 use lib.ListN.{length}
 use Rattle.exponents.specs.Fractions.{faulty}
 use Rattle.units.specs.declared.Factor.{Factor}
@@ -13,9 +13,5 @@ use Rattle.reduction.proofs.bases.with_factor.Given as goal
 
 abbrev pub invariant-loop-s : goal.invariant-loop-s
 invariant-loop-s l =
-    (l.s ≤ l.m)
-    × (length l.at ≡ 16)
-    × ((v : View) (n : ℕ) (fs : List Factor) → Lends v n l.nums l.dens → faulty l.f.exponent ≡ false → Summed v n fs l.p → Adding v n fs l.f l.p.stop l.at l.s)
-
-abbrev pub decreases-loop-s : goal.decreases-loop-s
-decreases-loop-s l = l.m - l.s
+    (length l.at ≡ 16)
+    × ((v : View) (n : ℕ) (fs : List Factor) → Lends v n l.bases.nums.now l.bases.dens.now → faulty l.f.exponent ≡ false → Summed v n fs l.p → Adding v n fs l.f l.p.stop l.at l.s)

@@ -7,7 +7,7 @@ use Rattle.simplification.proofs.Turns.{Along}
 use Rattle.simplification.proofs.steps.by_groups.Given as goal
 
 abbrev pub invariant-loop-p : goal.invariant-loop-p
-invariant-loop-p l = (v : View) (cs : List Factor) → Lends v l.n l.nums l.dens → Resolved v l.c cs → Along v l.n cs l.p
+invariant-loop-p l = (v : View) (cs : List Factor) → Lends v l.n l.bases.nums.now l.bases.dens.now → Resolved v l.c cs → Along v l.n cs l.p
 
 abbrev pub decreases-loop-p : goal.decreases-loop-p
 decreases-loop-p l = l.m - l.p.next

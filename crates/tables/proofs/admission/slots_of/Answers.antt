@@ -10,16 +10,16 @@ use Rattle.tables.proofs.Slotting.{slotting_none, slotting_on, slotting_end, lon
 use Rattle.tables.proofs.admission.slots_of.Goals as goal
 
 pub loop-i-init : goal.loop-i-init
-loop-i-init c = (omega arith, slotting_none (rows_of c.args.rows) _ c.no_slots-slots.ensures)
+loop-i-init c = slotting_none (rows_of c.args.rows) _ c.no_slots-slots.ensures
 
 pub loop-i-preserved : goal.loop-i-preserved
 loop-i-preserved c =
     let full : length c.args.rows.at ≡ 128 = search (rules, unmapped) in
     let k = c.loop-i in
-    (omega arith, slotting_on (rows_of c.args.rows) k.slots k.i k.invariant.1 _ (row_here c.args.rows (full) c.requires k.i nil_row (omega arith)) c.slotted-slots.result c.slotted-slots.ensures)
+    slotting_on (rows_of c.args.rows) k.slots k.i k.invariant _ (row_here c.args.rows (full) c.requires k.i nil_row (omega arith)) c.slotted-slots.result c.slotted-slots.ensures
 
 pub returns : goal.returns
 returns c =
     let full : length c.args.rows.at ≡ 128 = search (rules, unmapped) in
     let k = c.loop-i in
-    slotting_end (rows_of c.args.rows) k.slots k.i k.invariant.1 (omega (arith, long_rows c.args.rows (full) c.requires))
+    slotting_end (rows_of c.args.rows) k.slots k.i k.invariant (omega (arith, long_rows c.args.rows (full) c.requires))

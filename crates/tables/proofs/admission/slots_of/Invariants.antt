@@ -1,11 +1,7 @@
 -- `slots_of` meets its contract. The invariant: the rows before i are looked at.
-use Prim.Native.Nat.{◌-◌, ◌≤◌}
 use Rattle.tables.specs.Rows.{rows_of}
 use Rattle.tables.proofs.Slotting.{Slotting}
 use Rattle.tables.proofs.admission.slots_of.Given as goal
 
 abbrev pub invariant-loop-i : goal.invariant-loop-i
-invariant-loop-i l = (l.i ≤ l.n) × Slotting (rows_of l.rows) l.slots l.i
-
-abbrev pub decreases-loop-i : goal.decreases-loop-i
-decreases-loop-i l = l.n - l.i
+invariant-loop-i l = Slotting (rows_of l.rows) l.slots l.i

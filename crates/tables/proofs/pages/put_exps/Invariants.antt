@@ -1,6 +1,6 @@
 -- `put_exps` meets its contract. The invariant: those from s on are still to be put.
 use mathlib.Core.Path.{◌≡◌}
-use Prim.Native.Nat.{◌≤◌, ◌-◌, ◌+◌}
+use Prim.Native.Nat.{◌+◌}
 use lib.ListN.{length, drop}
 use lib.Seq.{sets}
 use Rattle.tables.specs.Held.{tops, bottoms}
@@ -8,8 +8,5 @@ use Rattle.tables.proofs.pages.put_exps.Given as goal
 
 abbrev pub invariant-loop-s : goal.invariant-loop-s
 invariant-loop-s l =
-    (l.s ≤ 16) × (length l.nums ≡ length l.initial.nums) × (length l.dens ≡ length l.initial.dens)
+    (length l.nums ≡ length l.initial.nums) × (length l.dens ≡ length l.initial.dens)
     × (sets l.nums (l.at + l.s) (tops (drop l.s l.e)) ≡ sets l.initial.nums l.at (tops l.e)) × (sets l.dens (l.at + l.s) (bottoms (drop l.s l.e)) ≡ sets l.initial.dens l.at (bottoms l.e))
-
-abbrev pub decreases-loop-s : goal.decreases-loop-s
-decreases-loop-s l = 16 - l.s

@@ -13,7 +13,6 @@ loop-j-init c =
     let z = one_len _ _ c.alone-g.ensures in (
       omega arith,
       omega arith,
-      omega arith,
       λ v fs r k. grown_one v fs a.i _ _ k (read_items v fs a.c r.is a.i _ k) c.alone-g.ensures,
     )
 
@@ -25,8 +24,8 @@ returns-then-y-z c =
       λ v fs r l.
           let n = len_items v fs a.c r.is in
           let h = r.short in
-          let same = c.capped-n.ensures.1 (omega arith) in
-          grown_off v fs a.i k.g k.j (k.invariant.3 v fs r l) (omega arith) (class_other v fs a.c r.is (k.j - 1) k.j (omega arith) (omega arith) _ c.if-y-z.true)
+          let same = c.capped-j-end.ensures.1 (omega arith) in
+          grown_off v fs a.i k.g k.j (k.invariant.2 v fs r l) (omega arith) (class_other v fs a.c r.is (k.j - 1) k.j (omega arith) (omega arith) _ c.if-y-z.true)
           ∙ ap (pack_items v) (by_class r a.i),
     )
 
@@ -36,12 +35,11 @@ loop-j-preserved c =
     let a = c.args in (
       omega arith,
       omega arith,
-      omega arith,
       λ v fs r l.
           let n = len_items v fs a.c r.is in
           let h = r.short in
-          let same = c.capped-n.ensures.1 (omega arith) in
-          grown_on v fs a.i k.g k.j (k.invariant.3 v fs r l) (omega arith) (class_same v fs a.c r.is (k.j - 1) k.j (omega arith) (omega arith) _ c.if-y-z.false) (omega arith) (omega arith) _
+          let same = c.capped-j-end.ensures.1 (omega arith) in
+          grown_on v fs a.i k.g k.j (k.invariant.2 v fs r l) (omega arith) (class_same v fs a.c r.is (k.j - 1) k.j (omega arith) (omega arith) _ c.if-y-z.false) (omega arith) (omega arith) _
           (read_items v fs a.c r.is k.j _ (omega arith)),
     )
 
@@ -53,6 +51,6 @@ returns c =
       λ v fs r l.
           let n = len_items v fs a.c r.is in
           let h = r.short in
-          let same = c.capped-n.ensures.1 (omega arith) in
-          grown_end v fs a.i k.g k.j (k.invariant.3 v fs r l) (omega arith) ∙ ap (pack_items v) (by_class r a.i),
+          let same = c.capped-j-end.ensures.1 (omega arith) in
+          grown_end v fs a.i k.g k.j (k.invariant.2 v fs r l) (omega arith) ∙ ap (pack_items v) (by_class r a.i),
     )

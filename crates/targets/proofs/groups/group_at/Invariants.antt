@@ -9,7 +9,4 @@ use Rattle.targets.proofs.Grouping.{Grown}
 use Rattle.targets.proofs.groups.group_at.Given as goal
 
 abbrev pub invariant-loop-j : goal.invariant-loop-j
-invariant-loop-j l = (l.i < l.j) × (l.j ≤ 16) × (l.g.len ≡ l.j - l.i) × ((v : View) (fs : List Factor) → Resolved v l.c fs → l.i < length fs → Grown v fs l.i l.g l.j)
-
-abbrev pub decreases-loop-j : goal.decreases-loop-j
-decreases-loop-j l = l.n - l.j
+invariant-loop-j l = (l.j ≤ 16) × (l.g.len ≡ l.j - l.i) × ((v : View) (fs : List Factor) → Resolved v l.c fs → l.i < length fs → Grown v fs l.i l.g l.j)

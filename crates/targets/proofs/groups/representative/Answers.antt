@@ -22,7 +22,7 @@ loop-i-preserved c =
       omega arith,
       λ v f fs e h.
           let n = items_len v b (f ∷ fs) e in
-          let same = c.capped-n.ensures.1 (omega arith) in
+          let same = c.capped-i-end.ensures.1 (omega arith) in
           let s = (k.invariant.2 v f fs e h).1 in
           let o = (k.invariant.2 v f fs e h).0 in
           let is = u.ensures v _ _ (item_at v b (f ∷ fs) e k.r _ f (omega arith)) (item_at v b (f ∷ fs) e k.i _ f (omega arith)) in (
@@ -40,6 +40,6 @@ returns c =
       omega arith,
       λ v f fs e h.
           let n = items_len v c.args.l (f ∷ fs) e in
-          let same = c.capped-n.ensures.1 (omega arith) in
+          let same = c.capped-i-end.ensures.1 (omega arith) in
           ((k.invariant.2 v f fs e h).0, greatest_end v.base f fs k.r k.i (k.invariant.2 v f fs e h).1 (omega arith)),
     )

@@ -1,7 +1,7 @@
 -- `summed` meets its contract. The invariant: what the items before i have is in `acc`.
 use mathlib.Core.Path.{◌≡◌}
 use mathlib.Core.List.{List}
-use Prim.Native.Nat.{ℕ, ◌-◌, ◌≤◌}
+use Prim.Native.Nat.{ℕ}
 use lib.ListN.{drop}
 use Rattle.exponents.specs.Fractions.{sum?}
 use Rattle.units.specs.declared.Factor.{Factor}
@@ -12,8 +12,4 @@ use Rattle.targets.proofs.groups.summed.Given as goal
 
 abbrev pub invariant-loop-i : goal.invariant-loop-i
 invariant-loop-i l =
-    (l.i ≤ l.n)
-    × ((v : View) (b : ℕ) (fs : List Factor) → Lends v b l.nums l.dens → Resolved v l.l fs → sum? (share (firsts v) l.d) l.acc (drop l.i fs) ≡ summed (firsts v) l.d fs)
-
-abbrev pub decreases-loop-i : goal.decreases-loop-i
-decreases-loop-i l = l.n - l.i
+    (v : View) (b : ℕ) (fs : List Factor) → Lends v b l.bases.nums.now l.bases.dens.now → Resolved v l.l fs → sum? (share (firsts v) l.d) l.acc (drop l.i fs) ≡ summed (firsts v) l.d fs

@@ -2,37 +2,37 @@
 use mathlib.Core.Path.{sym, ap, ◌∙◌}
 use native.Mathlib.Omega.{arith}
 use lib.ListN.{length}
+use Rattle.exponents.proofs.Handed.{handed_on}
+use Rattle.exponents.proofs.Numbers.{apply_answers, apply_refuses}
 use Rattle.tables.specs.Lists.{base}
-use Rattle.tables.specs.Held.{view_bases, pack_items}
-use Rattle.reduction.proofs.Handed.{exps_given, exps_refused}
-use Rattle.targets.proofs.Fitted.{told-first, target_range, target_scalar, chosen, fitted_on, fitted_off}
+use Rattle.tables.specs.Held.{pack_exps, view_bases, pack_items}
+use Rattle.targets.proofs.Fitted.{told_first, target_range, target_scalar, chosen, fitted_on, fitted_off}
 use Rattle.targets.proofs.groups.target_of.Goals as goal
 
-pub returns-then-x-ne0 : goal.returns-then-x-ne0
-returns-then-x-ne0 c v fs lends r =
-    let n = c.args.n in
-    c.empty_but.ensures ∙ target_range v n fs _ (exps_refused (base (view_bases v n) fs) c.base_of-x.result (c.base_of-x.ensures v fs lends r) c.if-x-ne0.true)
+pub returns-in_err-x : goal.returns-in_err-x
+returns-in_err-x c v fs lends r =
+    handed_on _ _ c.from_residual.ensures.1 ∙ target_range v c.args.n fs _ (apply_refuses pack_exps (base (view_bases v c.args.n) fs) _ (sym (c.in_err-x.ensures v fs lends r)))
 
 pub returns-then-all_zero : goal.returns-then-all_zero
 returns-then-all_zero c v fs lends r =
     let n = c.args.n in
-    let b = exps_given (base (view_bases v n) fs) c.base_of-x.result (c.base_of-x.ensures v fs lends r) c.if-x-ne0.false in
-    c.empty_but-then-all_zero.ensures ∙ target_scalar v n fs b.exps c.base_of-x.result.at b.is b.at (sym c.all_zero.ensures ∙ c.if-all_zero.true)
+    let b = apply_answers pack_exps (base (view_bases v n) fs) _ (sym (c.in_ok-x.ensures v fs lends r)) in
+    target_scalar v n fs b.answer _ b.is (sym b.made) (sym c.all_zero.ensures ∙ c.if-all_zero.true) _ c.no_items.ensures
 
-pub returns-in-Exact : goal.returns-in-Exact
-returns-in-Exact c v fs lends r =
+pub returns-in_err-t : goal.returns-in_err-t
+returns-in_err-t c v fs lends r =
     let a = c.args in
-    let b = exps_given (base (view_bases v a.n) fs) c.base_of-x.result (c.base_of-x.ensures v fs lends r) c.if-x-ne0.false in
+    let b = apply_answers pack_exps (base (view_bases v a.n) fs) _ (sym (c.in_ok-x.ensures v fs lends r)) in
     let m =
-    chosen v a.n a.l fs r.is b.exps c.base_of-x.result.at b.is b.at (sym c.all_zero.ensures ∙ c.if-all_zero.false) c.representative-p.result
+    chosen v a.n a.l fs r.is b.answer _ b.is (sym b.made) (sym c.all_zero.ensures ∙ c.if-all_zero.false) c.representative-p.result
     (λ g gs w. c.representative-p.ensures.1 v g gs (r.is ∙ ap (pack_items v) w) (omega (arith, r.short, ap length w))) in
-    fitted_on v a.n fs _ m c.first_exponent-d.result (c.first_exponent-d.ensures ∙ told-first lends _) c.summed-s.result (c.summed-s.ensures v a.n fs lends r) _ c.in-Exact.is c.at_exponent-y.result c.at_exponent-y.ensures _ c.alone-m.ensures
+    handed_on _ _ c.from_residual-in_err-t.ensures.1 ∙ fitted_off v a.n fs _ m c.first_exponent-d.result (c.first_exponent-d.ensures ∙ told_first lends _) _ (c.in_err-t.ensures v a.n fs lends r)
 
-pub returns-in-Refused : goal.returns-in-Refused
-returns-in-Refused c v fs lends r =
+pub returns : goal.returns
+returns c v fs lends r =
     let a = c.args in
-    let b = exps_given (base (view_bases v a.n) fs) c.base_of-x.result (c.base_of-x.ensures v fs lends r) c.if-x-ne0.false in
+    let b = apply_answers pack_exps (base (view_bases v a.n) fs) _ (sym (c.in_ok-x.ensures v fs lends r)) in
     let m =
-    chosen v a.n a.l fs r.is b.exps c.base_of-x.result.at b.is b.at (sym c.all_zero.ensures ∙ c.if-all_zero.false) c.representative-p.result
+    chosen v a.n a.l fs r.is b.answer _ b.is (sym b.made) (sym c.all_zero.ensures ∙ c.if-all_zero.false) c.representative-p.result
     (λ g gs w. c.representative-p.ensures.1 v g gs (r.is ∙ ap (pack_items v) w) (omega (arith, r.short, ap length w))) in
-    c.empty_but-in-Refused.ensures ∙ fitted_off v a.n fs _ m c.first_exponent-d.result (c.first_exponent-d.ensures ∙ told-first lends _) c.summed-s.result (c.summed-s.ensures v a.n fs lends r) _ c.in-Refused.is
+    fitted_on v a.n fs _ m c.first_exponent-d.result (c.first_exponent-d.ensures ∙ told_first lends _) _ (c.in_ok-t.ensures v a.n fs lends r) c.at_exponent-y.result c.at_exponent-y.ensures _ c.alone.ensures

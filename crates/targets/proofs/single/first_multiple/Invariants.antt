@@ -2,10 +2,10 @@
 use mathlib.Core.Path.{◌≡◌}
 use mathlib.Core.Bool.{false, ◌&&◌}
 use mathlib.Core.List.{List}
-use Prim.Native.Nat.{◌-◌, ◌≤◌}
 use lib.Dec.{eqb}
 use lib.ListN.{drop}
-use Rattle.exponents.specs.Fractions.{unit, faulty}
+use Rattle.std.specs.declared.option.Option.TheVariants.{None}
+use Rattle.exponents.specs.Fractions.{faulty}
 use Rattle.exponents.specs.declared.Exponent.{Exponent}
 use Rattle.units.specs.declared.Factor.{Factor}
 use Rattle.tables.specs.Held.{View}
@@ -16,14 +16,8 @@ use Rattle.targets.proofs.single.first_multiple.Given as goal
 
 abbrev pub invariant-loop-s : goal.invariant-loop-s
 invariant-loop-s l =
-    (l.s ≤ 16) × (l.hit ≡ l.initial.hit) × (l.power ≡ l.initial.power) × (l.s ≡ 16 → (l.all && eqb l.w.den 1) ≡ false) × (faulty l.w ≡ false → fits_from l.all (drop l.s l.x) (drop l.s l.y) l.w ≡ fits l.x l.y l.w)
-
-abbrev pub decreases-loop-s : goal.decreases-loop-s
-decreases-loop-s l = 16 - l.s
+    (l.found ≡ l.initial.found) × (l.s ≡ 16 → (l.all && eqb l.w.den 1) ≡ false) × (faulty l.w ≡ false → fits_from l.all (drop l.s l.x) (drop l.s l.y) l.w ≡ fits l.x l.y l.w)
 
 abbrev pub invariant-factors : goal.invariant-factors
 invariant-factors l =
-    (l.i ≤ l.m) × (l.hit ≡ l.m) × (l.power ≡ unit) × ((v : View) (cs : List Factor) (xs : List Exponent) → Had v l.n l.nums l.dens l.c l.x cs xs → from v l.n cs l.i ≡ whole v l.n cs)
-
-abbrev pub decreases-factors : goal.decreases-factors
-decreases-factors l = l.m - l.i
+    (l.found ≡ None) × ((v : View) (cs : List Factor) (xs : List Exponent) → Had v l.n l.bases.nums.now l.bases.dens.now l.c l.x cs xs → from v l.n cs l.i ≡ whole v l.n cs)

@@ -1,6 +1,6 @@
 -- `store` meets its contract.
 use mathlib.Core.Path.{◌≡◌}
-use Prim.Native.Nat.{◌≤◌, ◌-◌, ◌+◌}
+use Prim.Native.Nat.{◌-◌, ◌+◌}
 use lib.ListN.{length}
 use lib.Seq.{sets}
 use Rattle.wire.specs.Bytes.{bytes_of}
@@ -8,7 +8,4 @@ use Rattle.wire.proofs.numbers.store.Given as goal
 
 abbrev pub invariant-loop-k : goal.invariant-loop-k
 invariant-loop-k l =
-    (l.k ≤ l.w) × (length l.out ≡ length l.initial.out) × (sets l.out (l.at + l.k) (bytes_of (l.w - l.k) l.y) ≡ sets l.initial.out l.at (bytes_of l.w l.x))
-
-abbrev pub decreases-loop-k : goal.decreases-loop-k
-decreases-loop-k l = l.w - l.k
+    (length l.out ≡ length l.initial.out) × (sets l.out (l.at + l.k) (bytes_of (l.w - l.k) l.y) ≡ sets l.initial.out l.at (bytes_of l.w l.x))

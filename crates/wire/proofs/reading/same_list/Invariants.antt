@@ -1,10 +1,6 @@
 -- `same_list` meets its contract.
-use Prim.Native.Nat.{◌-◌}
 use Rattle.wire.proofs.Alike.{Alike}
 use Rattle.wire.proofs.reading.same_list.Given as goal
 
 abbrev pub invariant-loop-k : goal.invariant-loop-k
 invariant-loop-k l = Alike l.s l.a l.b l.k
-
-abbrev pub decreases-loop-k : goal.decreases-loop-k
-decreases-loop-k l = l.n - l.k

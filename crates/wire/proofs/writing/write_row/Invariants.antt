@@ -1,6 +1,6 @@
 -- `write_row` meets its contract. The invariant: storing the factors from i on gives what storing all of them gives.
 use mathlib.Core.Path.{◌≡◌}
-use Prim.Native.Nat.{◌+◌, ◌-◌, ◌*◌, ◌≤◌}
+use Prim.Native.Nat.{◌+◌, ◌*◌}
 use lib.ListN.{length, drop}
 use lib.Seq.{sets}
 use Rattle.wire.specs.Bytes.{run_bytes}
@@ -8,7 +8,4 @@ use Rattle.wire.specs.Records.{factor_bytes}
 use Rattle.wire.proofs.writing.write_row.Given as goal
 
 abbrev pub invariant-loop-i : goal.invariant-loop-i
-invariant-loop-i l = (l.i ≤ 8) × (length l.out ≡ length l.initial.out) × (sets l.out (l.at + 16 + l.i * 20) (run_bytes factor_bytes (drop l.i l.r.def)) ≡ sets l.initial.out (l.at + 16) (run_bytes factor_bytes l.r.def))
-
-abbrev pub decreases-loop-i : goal.decreases-loop-i
-decreases-loop-i l = 8 - l.i
+invariant-loop-i l = (length l.out ≡ length l.initial.out) × (sets l.out (l.at + 16 + l.i * 20) (run_bytes factor_bytes (drop l.i l.r.def)) ≡ sets l.initial.out (l.at + 16) (run_bytes factor_bytes l.r.def))

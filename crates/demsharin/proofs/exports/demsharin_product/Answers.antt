@@ -1,6 +1,0 @@
--- `demsharin_product` meets its contract.
-use Rattle.demsharin.proofs.Exporting.{exported}
-use Rattle.demsharin.proofs.exports.demsharin_product.Goals as goal
-
-pub returns : goal.returns
-returns c = exported _ _ _ _ c.product-r.ensures
