@@ -294,6 +294,7 @@ fn same_list(a: Factors, b: Factors) -> bool {
     a.len == b.len
 }
 
+// Kept: floats are the same by their bits.
 fn same_quantity(q: Quantity, p: Quantity) -> bool {
     q.mark == p.mark
         && floats::bits_of(q.value) == floats::bits_of(p.value)

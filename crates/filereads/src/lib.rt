@@ -56,10 +56,7 @@ fn read_derived(s: &[u8], at: usize, rank: u16) -> Option<(Row, usize)>
     ensures { result ≡ handed (length s.now) (derived? rank (drop at s.now)) }
 {
     let len = s.len();
-    if len < 8 {
-        return None;
-    }
-    if len - 8 < at {
+    if len < 8 || len - 8 < at {
         return None;
     }
     let x = floats::of_bits(wire::numbers::read_u64(s, at));

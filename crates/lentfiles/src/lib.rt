@@ -1,4 +1,5 @@
 // The calls of the table file over lent rows: a table written from them, read into them, salvaged into them.
+// Kept: calls alike but for the call they pass on to: each has its name in 02 and a contract over its own definition.
 #![tactic(auto)]
 
 ghost use Rattle.std.specs.Prelude.{◌≡◌, ◌++◌, length, drop};

@@ -38,6 +38,7 @@ pub fn same_list_over(o: Result<Opened, Refusal>) -> Result<bool, Refusal>
     canonical::equality::equal(o.a, o.b)
 }
 
+// Kept: a call of 01, over a table.
 pub fn same_list(rows: Rows, a: Factors, b: Factors) -> Result<bool, Refusal>
     ensures { result ≡ same_lists rows a b }
 {

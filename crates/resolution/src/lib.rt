@@ -160,6 +160,7 @@ pub fn resolve(
     units::lists::check_pair(len, a, b)?;
     let n = a.len;
     let m = n + b.len;
+    // Kept: of other lengths: the rows that the lists name, and sixteen numbers of each one's key.
     let mut keys = [0i64; 512];
     let mut named = [0u32; 32];
     let bases = Bases {

@@ -22,8 +22,8 @@ pub record Ends (s : List ℕ) (f m t : ℕ) : Type 0 where
   pub held : take (t - f) (drop f s) ≡ take m (drop f s)
   pub after : drop t s ≡ drop (f + m) s
 
-pub ends-whole : (s : List ℕ) (f m t : ℕ) → f ≤ length s → m ≤ length s - f → t ≡ f + m → Ends s f m t
-ends-whole s f m t a h e =
+pub ends_whole : (s : List ℕ) (f m t : ℕ) → f ≤ length s → m ≤ length s - f → t ≡ f + m → Ends s f m t
+ends_whole s f m t a h e =
     let k : t - f ≡ m = omega arith in
     record { behind = omega arith; inside = omega arith; held = rw k; after = rw e }
 
@@ -57,7 +57,7 @@ module _ (s : List ℕ) (n k i : ℕ) (inv : part n s ≡ part k (drop i s)) whe
     unfolding part
     part_here e = rw (inv, e, le-drop, add-zero, drop-drop) h.held
 
-    pub part-next : (k ≡ 0 → ⊥) → part n s ≡ part (k - 1) (drop t s)
-    part-next e =
+    pub part_next : (k ≡ 0 → ⊥) → part n s ≡ part (k - 1) (drop t s)
+    part_next e =
         let p : k ≡ suc (k - 1) = omega arith in
         rw h.after (inv ∙ ap (λ j. part j (drop i s)) p ∙ part-after s (k - 1) i)

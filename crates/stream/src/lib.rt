@@ -104,6 +104,7 @@ pub fn framed(code: u32, s: &[u8], from: usize) -> Frame
 }
 
 // The k-th argument in the bytes behind a code.
+#[tactic(auto, using(crate::proofs::Parts::part_next, crate::proofs::Parts::part_here, crate::proofs::Parts::part_none, crate::proofs::Parts::ends_whole, crate::proofs::Parts::ends_cut))]
 fn part_at(args: &[u8], k: u32) -> Part
     ensures { (take (result.to - result.from) (drop result.from args.now) ≡ spec.part k args.now) × (result.from ≤ result.to) × (result.to ≤ length args.now) }
 {
@@ -163,6 +164,7 @@ pub fn answer(code: u32, args: &[u8], out: &mut [u8]) -> Reply
 // ---- many requests
 
 // Writes the answer to a request from place o on, and tells where it ends.
+#[tactic(auto, using(crate::proofs::Answering::reply_short))]
 fn one(code: u32, args: &[u8], out: &mut [u8], o: usize) -> usize
     requires { o + spec.place ≤ length out.old }
     ensures { (result ≡ o + length (spec.answer_bytes (spec.answered code args.now))) × (result ≤ o + spec.place) × (out.new ≡ take o out.old ++ (spec.answer_bytes (spec.answered code args.now) ++ drop result out.old)) }

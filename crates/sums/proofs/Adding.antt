@@ -1,13 +1,12 @@
 -- Sums of nonzero values: what the smaller unit tells of its outcome; and the sum of two quantities once their lists are opened.
-use mathlib.Core.Path.{◌≡◌, sym, ap, ◌∙◌}
+use mathlib.Core.Path.{◌≡◌, refl, sym, ap, ◌∙◌}
 use mathlib.Core.Bool.{Bool, true, false}
 use mathlib.Core.List.{List}
 use Prim.Native.Nat.{ℕ}
 use lib.IntN.{ℤ}
 use lib.Ieee.{Float}
 use Rattle.exponents.specs.Words.{pick}
-use Rattle.exponents.specs.Outcome.{Refusal, Outcome, Ok, Err}
-use Rattle.exponents.proofs.Numbers.{clash, apply_refuses}
+use Rattle.exponents.specs.Outcome.{Refusal, Outcome, Ok, Err, bind}
 use Rattle.floats.specs.Values.{is_zero}
 use Rattle.units.specs.declared.Factor.{Factor}
 use Rattle.units.specs.declared.Quantity.{Quantity}
@@ -15,7 +14,8 @@ use Rattle.units.specs.declared.Rows.{Rows}
 use Rattle.tables.specs.declared.Items.{Items}
 use Rattle.tables.specs.Rows.{Facts, base_rows}
 use Rattle.tables.specs.Held.{View, Resolved, Lends, rules_by}
-use Rattle.tables.specs.Rules.{rules_in}
+use Rattle.tables.specs.Rules.{Rules, rules_in}
+use Rattle.reduction.specs.Reduction.{smaller_unit}
 use Rattle.reduction.specs.Held.{smaller_of}
 use Rattle.reduction.specs.declared.reduce.Smaller.{Smaller}
 use Rattle.reduction.specs.declared.reduce.Smaller.TheVariants as smaller
@@ -31,13 +31,14 @@ abbrev pub is_first : Smaller → Bool
 is_first smaller.First = true
 is_first smaller.Second = false
 
-pub chosen_so : (o : Outcome Bool) (w : Smaller) → Ok w ≡ smaller_of o → o ≡ Ok (is_first w)
-chosen_so (Ok true) w e = let h : w ≡ smaller.First = cc in rw h
-chosen_so (Ok false) w e = let h : w ≡ smaller.Second = cc in rw h
-chosen_so (Err r) w e = absurd (clash e)
-
-pub refused_so : (o : Outcome Bool) (r : Refusal) → Err r ≡ smaller_of o → o ≡ Err r
-refused_so o r e = apply_refuses _ o r (sym e)
+pub chosen_then : {C : Type 0} (R : Rules Float) (fs gs : List Factor) (f : Bool → Outcome C) → bind (smaller_unit R fs gs) f ≡ bind (smaller_of (smaller_unit R fs gs)) (λ w. f (is_first w))
+unfolding bind
+chosen_then {C} R fs gs f = go (smaller_unit R fs gs)
+  where
+    go : (o : Outcome Bool) → bind o f ≡ bind (smaller_of o) (λ w. f (is_first w))
+    go (Ok true) = refl
+    go (Ok false) = refl
+    go (Err r) = refl
 
 -- what code promises of the sum of nonzero values
 abbrev Adds : List ℤ → List ℕ → Bool → Float → Float → Items → Items → ℕ → Outcome Quantity → Type 0

@@ -48,7 +48,7 @@ fn together(
 }
 
 // The same where neither value is zero: equal lists add their values; else the unit of the smaller scale is taken.
-#[tactic(auto, using(crate::proofs::Adding::chosen_so), unfolding(crate::specs::Sums::nonzero_sum, exponents::specs::Outcome::bind))]
+#[tactic(auto, using(crate::proofs::Adding::chosen_then), unfolding(crate::specs::Sums::nonzero_sum, exponents::specs::Outcome::bind))]
 fn nonzero_sum(
     minus: bool,
     x: f64,

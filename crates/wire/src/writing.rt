@@ -1,7 +1,7 @@
 // Records into bytes, from a place on; what stands before and behind is kept.
 ghost use Rattle.std.specs.Prelude.{◌≡◌, ◌+◌, ◌≤◌, length};
 ghost use Rattle.std.proofs.lemmas.List.Edits.{sets};
-ghost use Rattle.wire.specs.Records.{exponent_bytes, prefix_kind, prefix_number, prefix_bytes, factor_bytes, list_bytes, flag, quantity_bytes, kind_number, kind_factor, row_bytes, candidate_bytes};
+ghost use Rattle.wire.specs.Records.{exponent_bytes, prefix_kind, prefix_number, prefix_bytes, factor_bytes, list_bytes, quantity_bytes, kind_number, kind_factor, row_bytes, candidate_bytes};
 
 use super::numbers::{store, write_i32, write_u32};
 use exponents::Exponent;

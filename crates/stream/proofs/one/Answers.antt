@@ -4,12 +4,6 @@ use Rattle.stream.specs.Stream.{answered}
 use Rattle.stream.proofs.Answering.{reply_short, one_end, one_written}
 use Rattle.stream.proofs.one.Goals as goal
 
-pub overflow_cast-len : goal.overflow_cast-len
-overflow_cast-len c = omega (arith, reply_short _ _ c.requires _ _ c.answer-r.ensures.0 _ c.unwrap_or-len.ensures)
-
-pub overflow_add-result : goal.overflow_add-result
-overflow_add-result c = omega (arith, reply_short _ _ c.requires _ _ c.answer-r.ensures.0 _ c.unwrap_or-len.ensures)
-
 pub returns : goal.returns
 unfolding answered
 returns c =
