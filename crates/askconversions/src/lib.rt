@@ -14,7 +14,7 @@ use wire::arguments;
 pub fn convert_merged(table: &[u8], quantity: &[u8], target: &[u8], out: &mut [u8]) -> Reply
     ensures { Replied out.old (spec.convert_merged table.now quantity.now target.now) result out.new }
 {
-    let mut columns = Columns::blank();
+    let mut columns = Columns::zeros();
     let q = arguments::quantity(quantity);
     let l = arguments::list(target);
     let o = intake::open_lists(table, q.unit, l, &mut columns);

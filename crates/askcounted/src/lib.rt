@@ -36,7 +36,7 @@ fn sent(c: Result<Counted, Refusal>, out: &mut [u8]) -> Reply
 pub fn convert_to_counted(table: &[u8], quantity: &[u8], target: &[u8], out: &mut [u8]) -> Reply
     ensures { Replied out.old (spec.convert_to_counted table.now quantity.now target.now) result out.new }
 {
-    let mut columns = Columns::blank();
+    let mut columns = Columns::zeros();
     let q = arguments::quantity(quantity);
     let l = arguments::list(target);
     let o = intake::open_lists(table, q.unit, l, &mut columns);
@@ -57,7 +57,7 @@ pub fn convert_to_counted(table: &[u8], quantity: &[u8], target: &[u8], out: &mu
 pub fn convert_merged_counted(table: &[u8], quantity: &[u8], target: &[u8], out: &mut [u8]) -> Reply
     ensures { Replied out.old (spec.convert_merged_counted table.now quantity.now target.now) result out.new }
 {
-    let mut columns = Columns::blank();
+    let mut columns = Columns::zeros();
     let q = arguments::quantity(quantity);
     let l = arguments::list(target);
     let o = intake::open_lists(table, q.unit, l, &mut columns);

@@ -119,7 +119,7 @@ pub fn knot_vector(table: &[u8], knots: &[u8], rule: &[u8], out: &mut [u8]) -> R
     ensures { Replied out.old (spec.knot_vector table.now knots.now rule.now) result out.new }
 {
     let u = rule_of(rule);
-    let mut columns = Columns::blank();
+    let mut columns = Columns::zeros();
     // Kept: the call over knots takes two rooms, and its contract speaks of each.
     let mut firsts = [0.0; 512];
     let mut times = [0u32; 512];
@@ -133,7 +133,7 @@ pub fn span_quotient(table: &[u8], knots: &[u8], rule: &[u8], out: &mut [u8]) ->
     ensures { Replied out.old (spec.span_quotient table.now knots.now rule.now) result out.new }
 {
     let a = span_of(rule);
-    let mut columns = Columns::blank();
+    let mut columns = Columns::zeros();
     let t = intake::admit_bytes(table, &mut columns);
     let q = knots::span_quotient_over(t, &columns, knots, a);
     replies::factor(q, out)

@@ -52,7 +52,7 @@ pub fn list_power(table: &[u8], list: &[u8], exponent: &[u8], out: &mut [u8]) ->
 pub fn canonical(table: &[u8], list: &[u8], out: &mut [u8]) -> Reply
     ensures { Replied out.old (spec.canonical table.now list.now) result out.new }
 {
-    let mut columns = Columns::blank();
+    let mut columns = Columns::zeros();
     let l = arguments::list(list);
     let none = units::lists::empty();
     let o = intake::open_lists(table, l, none, &mut columns);
@@ -63,7 +63,7 @@ pub fn canonical(table: &[u8], list: &[u8], out: &mut [u8]) -> Reply
 pub fn same_list(table: &[u8], a: &[u8], b: &[u8], out: &mut [u8]) -> Reply
     ensures { Replied out.old (spec.same_list table.now a.now b.now) result out.new }
 {
-    let mut columns = Columns::blank();
+    let mut columns = Columns::zeros();
     let l = arguments::list(a);
     let m = arguments::list(b);
     let o = intake::open_lists(table, l, m, &mut columns);
@@ -74,7 +74,7 @@ pub fn same_list(table: &[u8], a: &[u8], b: &[u8], out: &mut [u8]) -> Reply
 pub fn reduce_list(table: &[u8], list: &[u8], out: &mut [u8]) -> Reply
     ensures { Replied out.old (spec.reduce_list table.now list.now) result out.new }
 {
-    let mut columns = Columns::blank();
+    let mut columns = Columns::zeros();
     let l = arguments::list(list);
     let none = units::lists::empty();
     let o = intake::open_lists(table, l, none, &mut columns);
@@ -94,7 +94,7 @@ pub fn reduce_list(table: &[u8], list: &[u8], out: &mut [u8]) -> Reply
 pub fn smaller_unit(table: &[u8], a: &[u8], b: &[u8], out: &mut [u8]) -> Reply
     ensures { Replied out.old (spec.smaller_unit table.now a.now b.now) result out.new }
 {
-    let mut columns = Columns::blank();
+    let mut columns = Columns::zeros();
     let l = arguments::list(a);
     let m = arguments::list(b);
     let o = intake::open_lists(table, l, m, &mut columns);
@@ -114,7 +114,7 @@ pub fn smaller_unit(table: &[u8], a: &[u8], b: &[u8], out: &mut [u8]) -> Reply
 pub fn is_multiple_of(table: &[u8], a: &[u8], b: &[u8], out: &mut [u8]) -> Reply
     ensures { Replied out.old (spec.is_multiple_of table.now a.now b.now) result out.new }
 {
-    let mut columns = Columns::blank();
+    let mut columns = Columns::zeros();
     let l = arguments::list(a);
     let m = arguments::list(b);
     let o = intake::open_lists(table, l, m, &mut columns);

@@ -13,7 +13,7 @@ use wire::arguments;
 pub fn full_simplify(table: &[u8], quantity: &[u8], out: &mut [u8]) -> Reply
     ensures { Replied out.old (spec.full_simplify table.now quantity.now) result out.new }
 {
-    let mut columns = Columns::blank();
+    let mut columns = Columns::zeros();
     let q = arguments::quantity(quantity);
     let none = units::lists::empty();
     let o = intake::open_lists(table, q.unit, none, &mut columns);
@@ -36,7 +36,7 @@ pub fn full_simplify_with(table: &[u8], quantity: &[u8], candidates: &[u8], out:
 {
     let q = arguments::quantity(quantity);
     let c = arguments::candidates(candidates);
-    let mut columns = Columns::blank();
+    let mut columns = Columns::zeros();
     let t = intake::admit_bytes(table, &mut columns);
     replies::quantity(registry::full_simplify_with_over(t, &columns, q, c), out)
 }

@@ -14,7 +14,7 @@ use wire::arguments;
 pub fn reduce(table: &[u8], quantity: &[u8], out: &mut [u8]) -> Reply
     ensures { Replied out.old (spec.reduce table.now quantity.now) result out.new }
 {
-    let mut columns = Columns::blank();
+    let mut columns = Columns::zeros();
     let q = arguments::quantity(quantity);
     let none = units::lists::empty();
     let o = intake::open_lists(table, q.unit, none, &mut columns);
@@ -82,7 +82,7 @@ pub fn checked_div(table: &[u8], quantity: &[u8], other: &[u8], out: &mut [u8]) 
 pub fn checked_power(table: &[u8], quantity: &[u8], other: &[u8], out: &mut [u8]) -> Reply
     ensures { Replied out.old (spec.checked_power table.now quantity.now other.now) result out.new }
 {
-    let mut columns = Columns::blank();
+    let mut columns = Columns::zeros();
     let q = arguments::quantity(quantity);
     let p = arguments::quantity(other);
     let o = intake::open_lists(table, q.unit, p.unit, &mut columns);
@@ -104,7 +104,7 @@ pub fn checked_power(table: &[u8], quantity: &[u8], other: &[u8], out: &mut [u8]
 pub fn convert_to(table: &[u8], quantity: &[u8], target: &[u8], out: &mut [u8]) -> Reply
     ensures { Replied out.old (spec.convert_to table.now quantity.now target.now) result out.new }
 {
-    let mut columns = Columns::blank();
+    let mut columns = Columns::zeros();
     let q = arguments::quantity(quantity);
     let l = arguments::list(target);
     let o = intake::open_lists(table, q.unit, l, &mut columns);
@@ -125,7 +125,7 @@ pub fn convert_to(table: &[u8], quantity: &[u8], target: &[u8], out: &mut [u8]) 
 pub fn add(table: &[u8], quantity: &[u8], other: &[u8], out: &mut [u8]) -> Reply
     ensures { Replied out.old (spec.add table.now quantity.now other.now) result out.new }
 {
-    let mut columns = Columns::blank();
+    let mut columns = Columns::zeros();
     let q = arguments::quantity(quantity);
     let p = arguments::quantity(other);
     let o = intake::open_lists(table, q.unit, p.unit, &mut columns);
@@ -147,7 +147,7 @@ pub fn add(table: &[u8], quantity: &[u8], other: &[u8], out: &mut [u8]) -> Reply
 pub fn subtract(table: &[u8], quantity: &[u8], other: &[u8], out: &mut [u8]) -> Reply
     ensures { Replied out.old (spec.subtract table.now quantity.now other.now) result out.new }
 {
-    let mut columns = Columns::blank();
+    let mut columns = Columns::zeros();
     let q = arguments::quantity(quantity);
     let p = arguments::quantity(other);
     let o = intake::open_lists(table, q.unit, p.unit, &mut columns);
@@ -169,7 +169,7 @@ pub fn subtract(table: &[u8], quantity: &[u8], other: &[u8], out: &mut [u8]) -> 
 pub fn equal(table: &[u8], quantity: &[u8], other: &[u8], out: &mut [u8]) -> Reply
     ensures { Replied out.old (spec.equal table.now quantity.now other.now) result out.new }
 {
-    let mut columns = Columns::blank();
+    let mut columns = Columns::zeros();
     let q = arguments::quantity(quantity);
     let p = arguments::quantity(other);
     let o = intake::open_lists(table, q.unit, p.unit, &mut columns);
@@ -191,7 +191,7 @@ pub fn equal(table: &[u8], quantity: &[u8], other: &[u8], out: &mut [u8]) -> Rep
 pub fn compare(table: &[u8], quantity: &[u8], other: &[u8], out: &mut [u8]) -> Reply
     ensures { Replied out.old (spec.compare table.now quantity.now other.now) result out.new }
 {
-    let mut columns = Columns::blank();
+    let mut columns = Columns::zeros();
     let q = arguments::quantity(quantity);
     let p = arguments::quantity(other);
     let o = intake::open_lists(table, q.unit, p.unit, &mut columns);

@@ -268,11 +268,10 @@ fn changed(call: u8, q: Quantity, l: Factors) -> Result<Quantity, Refusal> {
 }
 
 fn asked(call: u8, q: Quantity, p: Quantity) -> Result<Answer, Refusal> {
-    let t = table(8);
     match call {
-        b'o' => Ok(Answer::Ordered(quantities::comparisons::compare(t, q, p)?)),
-        b'e' => Ok(Answer::Equal(quantities::comparisons::equal(t, q, p)?)),
-        b'l' => Ok(Answer::Equal(lists::forms::same_list(t, q.unit, p.unit)?)),
+        b'o' => Ok(Answer::Ordered(quantities::comparisons::compare(table(8), q, p)?)),
+        b'e' => Ok(Answer::Equal(quantities::comparisons::equal(table(8), q, p)?)),
+        b'l' => Ok(Answer::Equal(lists::forms::same_list(table(8), q.unit, p.unit)?)),
         b'+' | b'-' | b'*' | b'/' | b'^' => Ok(Answer::Quantity(combined(call, q, p)?)),
         _ => Ok(Answer::Quantity(changed(call, q, p.unit)?)),
     }
@@ -330,25 +329,20 @@ fn is_right(line: &[u8], got: Result<Answer, Refusal>) -> bool {
     let code = byte_at(line, 98);
     let want = quantity_at(line, 100);
     match got {
-        Ok(Answer::Quantity(q)) => code == b'0' && same_quantity(q, want),
+        Ok(Answer::Quantity(q)) => digit(code) == 0 && same_quantity(q, want),
         Ok(answer) => code == word(answer) && same_quantity(nothing(), want),
         Err(refusal) => digit(code) == u32::from(refusal) as u64 && same_quantity(nothing(), want),
     }
 }
 
-// What was answered: the value's bits, a word or a refusal.
+// What was answered: 0 for a quantity, a word's character or a refusal's number; and the value's bits.
 fn show_other(rt: &impl Print, got: Result<Answer, Refusal>) -> io::Result<()> {
-    match got {
-        Ok(Answer::Quantity(q)) => {
-            let bits = floats::bits_of(q.value);
-            println!(rt; " DIFFERS {bits:016x}")
-        }
-        Ok(answer) => {
-            let word = word(answer) as char;
-            println!(rt; " DIFFERS {word}")
-        }
-        Err(refusal) => println!(rt; " DIFFERS {refusal:?}"),
-    }
+    let (number, bits) = match got {
+        Ok(Answer::Quantity(q)) => (0, floats::bits_of(q.value)),
+        Ok(answer) => (word(answer) as u32, 0),
+        Err(refusal) => (u32::from(refusal), 0),
+    };
+    println!(rt; " DIFFERS {number} {bits:016x}")
 }
 
 fn tried(rt: &impl Print, line: &[u8]) -> io::Result<bool> {

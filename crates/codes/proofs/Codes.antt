@@ -1,19 +1,37 @@
--- The call of a code in two lists of calls joined.
+-- Calls whose codes are low and whose arguments are few, and the call of a code in two lists of calls joined.
 use mathlib.Core.Path.{◌≡◌, refl}
 use mathlib.Core.Bool.{Bool, true, false, ◌&&◌}
 use mathlib.Core.List.{List, [], ◌∷◌, ◌++◌}
-use Prim.Native.Nat.{ℕ}
+use Prim.Native.Nat.{ℕ, ◌<◌, ◌≤◌}
 use native.Mathlib.Omega.{arith}
-use borrow.Author.Tests.{ltb-true}
-use lib.Dec.{eqb, ltb}
+use borrow.Author.Tests.{ltb-true, leb-true}
+use lib.Dec.{eqb, ltb, leb}
 use Rattle.exponents.proofs.Equality.{and_left, and_right}
 use Rattle.exponents.specs.Words.{pick}
 use Rattle.codes.specs.Codes.{Call, look}
 
--- ---- calls that each have an argument
-abbrev pub proper : List Call → Bool
-proper [] = true
-proper (c ∷ l) = ltb 0 c.arity && proper l
+-- ---- calls of codes below m, each with one to three arguments
+abbrev pub proper : ℕ → List Call → Bool
+proper m [] = true
+proper m (c ∷ l) = (ltb c.code m && (ltb 0 c.arity && leb c.arity 3)) && proper m l
+
+-- what the test tells of the first
+record Told (m : ℕ) (c : Call) (l : List Call) : Type 0 where
+  below : c.code < m
+  some : 0 < c.arity
+  few : c.arity ≤ 3
+  rest : proper m l ≡ true
+
+told : (m : ℕ) (c : Call) (l : List Call) → proper m (c ∷ l) ≡ true → Told m c l
+told m c l e =
+    let a = and_left (ltb c.code m && (ltb 0 c.arity && leb c.arity 3)) (proper m l) e in
+    let b = and_right (ltb c.code m) (ltb 0 c.arity && leb c.arity 3) a in
+    record {
+      below = ltb-true c.code m (and_left (ltb c.code m) (ltb 0 c.arity && leb c.arity 3) a);
+      some = ltb-true 0 c.arity (and_left (ltb 0 c.arity) (leb c.arity 3) b);
+      few = leb-true c.arity 3 (and_right (ltb 0 c.arity) (leb c.arity 3) b);
+      rest = and_right (ltb c.code m && (ltb 0 c.arity && leb c.arity 3)) (proper m l) e;
+    }
 
 -- ---- two lists joined: the first list's call where it has one, else the second's
 
@@ -26,11 +44,11 @@ look-first (c ∷ l) m n h = go (eqb n c.code) h (look-first l m n)
     go true h again = refl
     go false h again = again h
 
-pub look-second : (l m : List Call) (n : ℕ) → proper l ≡ true → (look l n).arity ≡ 0 → look (l ++ m) n ≡ look m n
+pub look-second : (k : ℕ) (l m : List Call) (n : ℕ) → proper k l ≡ true → (look l n).arity ≡ 0 → look (l ++ m) n ≡ look m n
 unfolding look
-look-second [] m n e z = refl
-look-second (c ∷ l) m n e z = go (eqb n c.code) z (look-second l m n (and_right (ltb 0 c.arity) (proper l) e))
+look-second k [] m n e z = refl
+look-second k (c ∷ l) m n e z = go (eqb n c.code) z (look-second k l m n (told k c l e).rest)
   where
     go : (t : Bool) → (pick t c (look l n)).arity ≡ 0 → ((look l n).arity ≡ 0 → look (l ++ m) n ≡ look m n) → pick t c (look (l ++ m) n) ≡ look m n
-    go true z again = absurd (omega (arith, ltb-true 0 c.arity (and_left (ltb 0 c.arity) (proper l) e)))
+    go true z again = absurd (omega (arith, (told k c l e).some))
     go false z again = again z

@@ -57,7 +57,7 @@ pub fn convert_to_counted_over(
 pub fn convert_to_counted(rows: Rows, q: Quantity, target: Factors) -> Result<Counted, Refusal>
     ensures { result ≡ counted_of (spec.convert_to_counted rows q target) }
 {
-    let mut columns = Columns::blank();
+    let mut columns = Columns::zeros();
     let o = lists::opening::open_lists(rows, q.unit, target, &mut columns);
     convert_to_counted_over(
         o,
@@ -87,7 +87,7 @@ pub fn convert_merged_counted_over(
 pub fn convert_merged_counted(rows: Rows, q: Quantity, target: Factors) -> Result<Counted, Refusal>
     ensures { result ≡ counted_of (spec.convert_merged_counted rows q target) }
 {
-    let mut columns = Columns::blank();
+    let mut columns = Columns::zeros();
     let o = lists::opening::open_lists(rows, q.unit, target, &mut columns);
     convert_merged_counted_over(
         o,

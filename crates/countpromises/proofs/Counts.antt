@@ -32,7 +32,8 @@ use Rattle.conversion.proofs.Forgetting.{forget_convert}
 use Rattle.lists.specs.Calls.{same_lists}
 use Rattle.values.specs.Quantities.{fresh}
 use Rattle.quantities.specs.Calls.{convert_with, convert_to, convert_merged}
-use Rattle.counted.specs.Calls.{count_with_lem, convert_to_counted, convert_merged_counted}
+use Rattle.counted.specs.Calls.{count_with_lem, convert_to_counted, convert_merged_counted, counted_of}
+use Rattle.counted.specs.declared.Counted.{Counted}
 use Rattle.countpromises.proofs.Merged.{Short, Took, took, stays, merged-most}
 use Rattle.countpromises.proofs.Longest.{convert_most}
 
@@ -65,9 +66,9 @@ merging ks = canon (order_in ks)
 abbrev pub quantity_of : Outcome (Quantity × ℕ) → Outcome Quantity
 quantity_of o = apply (λ p. p.0) o
 
--- what a counted conversion took: nothing if it is refused
-abbrev pub multiplied : Outcome (Quantity × ℕ) → ℕ
-multiplied (Ok p) = p.1
+-- what a counted conversion took, as it is handed over: nothing if it is refused
+abbrev pub multiplied : Outcome Counted → ℕ
+multiplied (Ok c) = c.count
 multiplied (Err r) = 0
 
 module _ (t : Rows) (q : Quantity) (m : Factors) where
@@ -87,9 +88,10 @@ module _ (t : Rows) (q : Quantity) (m : Factors) where
   unfolding convert_to_counted convert_to convert_merged_counted convert_merged
   values_stay = (both_stay (λ R. convert R) (λ R. convert R) λ R. forget_convert R standing, both_stay (λ R. cancelling R) (λ R. cancelling R) λ R. forget_convert R (canon R.order))
 
-  -- THEOREM: a refusal counts 0
-  pub refused_none : (r : Refusal) → (convert_to_counted t q m ≡ Err r → multiplied (convert_to_counted t q m) ≡ 0) × (convert_merged_counted t q m ≡ Err r → multiplied (convert_merged_counted t q m) ≡ 0)
-  refused_none r = (λ e. ap multiplied e, λ e. ap multiplied e)
+  -- THEOREM: a refusal counts 0: it is handed over with nothing beside it
+  pub refused_none : (r : Refusal) → (convert_to_counted t q m ≡ Err r → (counted_of (convert_to_counted t q m) ≡ Err r) × (multiplied (counted_of (convert_to_counted t q m)) ≡ 0))
+      × (convert_merged_counted t q m ≡ Err r → (counted_of (convert_merged_counted t q m) ≡ Err r) × (multiplied (counted_of (convert_merged_counted t q m)) ≡ 0))
+  refused_none r = (λ e. (ap counted_of e, ap (λ o. multiplied (counted_of o)) e), λ e. (ap counted_of e, ap (λ o. multiplied (counted_of o)) e))
 
   -- ---- the count of an answer
 
@@ -153,14 +155,14 @@ module _ (t : Rows) (m : Factors) where
   -- what all of them take; one that is refused counts 0
   unfoldable pub spent : List Quantity → ℕ
   spent [] = 0
-  spent (q ∷ ks) = multiplied (convert_merged_counted t q m) + spent ks
+  spent (q ∷ ks) = multiplied (counted_of (convert_merged_counted t q m)) + spent ks
 
-  slot : (o : Outcome (Quantity × ℕ)) → ((p : Quantity × ℕ) → o ≡ Ok p → p.1 ≤ 2560) → multiplied o ≤ 2560
+  slot : (o : Outcome (Quantity × ℕ)) → ((p : Quantity × ℕ) → o ≡ Ok p → p.1 ≤ 2560) → multiplied (counted_of o) ≤ 2560
   slot (Ok p) h = h p refl
   slot (Err r) h = omega arith
 
   -- THEOREM: one knot takes at most 2,560, whatever it is
-  pub knot_bound : (q : Quantity) → multiplied (convert_merged_counted t q m) ≤ 2560
+  pub knot_bound : (q : Quantity) → multiplied (counted_of (convert_merged_counted t q m)) ≤ 2560
   knot_bound q = slot (convert_merged_counted t q m) λ p. (bounds t q m p).1
 
   -- THEOREM: so n of them at most 2,560 each

@@ -29,8 +29,8 @@ use Rattle.canonical.specs.Canonical.{place, insert, gather, nonzero, canon, sam
 use Rattle.common.specs.Common.{meet, if_same, with_shared, shared_with_lem, common}
 use Rattle.conversion.specs.Conversion.{judged, choose, rescaled, against, unlike, convert_by}
 use Rattle.values.specs.Quantities.{made}
-use Rattle.counted.specs.Calls.{convert_to_counted, convert_merged_counted}
-use Rattle.units.specs.declared.Quantity.{Quantity}
+use Rattle.counted.specs.Calls.{convert_to_counted, convert_merged_counted, counted_of}
+use Rattle.counted.specs.declared.Counted.{Counted}
 use Rattle.countpromises.proofs.Counts.{multiplied}
 
 -- ---- units
@@ -89,12 +89,12 @@ sixteen a b c d n = four a n ++ four b n ++ four c n ++ four d n
 abbrev Case : Type 0
 Case = ((ℕ × ℕ) × (ℕ × ℕ)) × ((ℕ × ℕ) × (ℕ × ℕ))
 
-abbrev shown : Outcome (Quantity × ℕ) → ℕ × ℕ
+abbrev shown : Outcome Counted → ℕ × ℕ
 shown o = (refusal_of o, multiplied o)
 
 -- a value by its bits, from one list to another
 abbrev both_ways : Rows → ℕ → List Factor → List Factor → (ℕ × ℕ) × (ℕ × ℕ)
-both_ways t v l m = (shown (convert_to_counted t (made true (of_bits binary64 v) l) (pack m)), shown (convert_merged_counted t (made true (of_bits binary64 v) l) (pack m)))
+both_ways t v l m = (shown (counted_of (convert_to_counted t (made true (of_bits binary64 v) l) (pack m))), shown (counted_of (convert_merged_counted t (made true (of_bits binary64 v) l) (pack m))))
 
 abbrev takes : Rows → ℕ → List Factor → List Factor → ℕ → ℕ → Case
 takes t v l m old new = (both_ways t v l m, ((0, old), (0, new)))

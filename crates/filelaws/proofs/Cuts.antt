@@ -7,7 +7,7 @@ use native.Mathlib.Omega.{arith}
 use borrow.Author.Tests.{leb-true, leb-false}
 use lib.Dec.{leb}
 use lib.ListN.{length, take, drop, length-append, length-drop, take-append-drop}
-use lib.Seq.{take-nil, take-append-le, take-append-add, drop-append-add}
+use lib.Seq.{length-take-le, take-nil, take-append-le, take-append-add, drop-append-add}
 use Rattle.exponents.specs.Words.{All}
 use Rattle.units.specs.declared.Row.{Row}
 use Rattle.wire.specs.Bytes.{run_bytes}
@@ -82,6 +82,9 @@ rows_cut (suc n) (r ∷ rs) c (suc k) h m w =
     let e : length (row_file r) + (c - length (row_file r)) ≡ c = omega arith in
     let v : Whole rs (c - length (row_file r)) k = record { few = omega arith; inside = omega arith; next = λ p. omega (arith, w.next (omega arith), length-append (row_file r) (run_bytes row_file (take (suc k) rs))) } in
     subst (λ x. Left (suc n) (r ∷ rs) x (suc k)) e (first-whole n r rs (c - length (row_file r)) k h.0 (rows_cut n rs (c - length (row_file r)) k h.1 (omega arith) v))
+
+pub left-length : (rs : List Row) (c k : ℕ) → c ≤ length (run_bytes row_file rs) → length (drop (bytes_to k rs) (take c (run_bytes row_file rs))) ≡ c - bytes_to k rs
+left-length rs c k h = rw (length-drop, length-take-le c (run_bytes row_file rs) h)
 
 pub bytes_inside : (k : ℕ) (rs : List Row) → bytes_to k rs ≤ length (run_bytes row_file rs)
 unfolding run_bytes

@@ -125,6 +125,10 @@ module _ (b : ℕ) (r : Row) (h : Kept 128 r) (k : Ranked b r) where
   pub row_most : length (row_file r) ≤ b + 122
   row_most = omega (arith, row_short, length-take r.len r.def, h.few)
 
+pub base_short : (r : Row) → r.kind ≡ Base → r.rank ≤ 65535 → length (row_file r) ≤ 4
+unfolding row_file kind_file
+base_short r e k = rw e (omega (arith, length-append (number_bytes r.rank) (number_bytes 0), word_ranked r k, number-below 1 0 (omega arith) (omega arith)))
+
 -- the first row has no factors: there is none before it
 pub first_short : (b : ℕ) (r : Row) → Kept 0 r → Ranked b r → length (row_file r) ≤ b + 10
 first_short b r h k = omega (arith, row_short b r (kept_more 0 128 r (omega arith) h) k, none (def_of r) h.lower)

@@ -1,5 +1,5 @@
 -- Parts of no fixed size written one behind the other: where the next begins, and what stands at the end.
-use mathlib.Core.Path.{◌≡◌, refl, sym, ap, ◌∙◌}
+use mathlib.Core.Path.{◌≡◌, refl, sym, ap, subst, ◌∙◌}
 use mathlib.Core.List.{List, [], ◌++◌}
 use Prim.Native.Nat.{ℕ, ◌+◌, ◌≤◌, ◌<◌}
 use native.Mathlib.Nat.{add_assoc}
@@ -8,7 +8,7 @@ use native.Mathlib.Omega.{arith}
 use lib.ListN.{length, get_or, drop, length-append, drop_of_length-le}
 use lib.Ieee.{Float, binary64, to_bits}
 use lib.IntN.{ℤ}
-use lib.Seq.{sets, drop-cons, length-take-le}
+use lib.Seq.{sets, drop-cons, get_or-take, length-take-le}
 use Rattle.units.specs.declared.Factor.{Factor}
 use Rattle.units.specs.declared.Kind.{Kind}
 use Rattle.units.specs.declared.Kind.TheVariants.{Base, Derived}
@@ -112,8 +112,15 @@ derived_written l l₁ l₂ l₃ l₄ i i₁ i₂ b' x r a b c g d e f =
 pub rows_long : (t : Rows) → length t.at ≡ 128 → t.len ≤ 128 → length (rows_of t) ≡ t.len
 rows_long t e h = length-take-le t.len t.at (omega arith)
 
-pub row_short : (t : Rows) (i : ℕ) (d : Row) → i < length (rows_of t) → All (λ r. r.len ≤ 8) (rows_of t) → (get_or (rows_of t) i d).len ≤ 8
-row_short t i d h a = all_at (λ r. r.len ≤ 8) (rows_of t) i d h a
+pub rows_at : (t : Rows) (i : ℕ) (d : Row) → i < t.len → get_or t.at i d ≡ get_or (rows_of t) i d
+rows_at t i d h = sym (get_or-take t.len t.at i d h)
+
+-- a row of the table, and as its place holds it
+pub row_few : (t : Rows) (i : ℕ) (d : Row) → i < length (rows_of t) → All (λ r. r.len ≤ 8) (rows_of t) → (get_or (rows_of t) i d).len ≤ 8
+row_few t i d h a = all_at (λ r. r.len ≤ 8) (rows_of t) i d h a
+
+pub row_short : (t : Rows) (i : ℕ) (d : Row) → i < t.len → length (rows_of t) ≡ t.len → All (λ r. r.len ≤ 8) (rows_of t) → (get_or t.at i d).len ≤ 8
+row_short t i d h e a = subst (λ r. r.len ≤ 8) (sym (rows_at t i d h)) (row_few t i d (omega (arith, e)) a)
 
 pub table_length : (t : Rows) → length (rows_of t) ≡ t.len → length (table_file (rows_of t)) ≡ length (number_bytes t.len) + length (run_bytes row_file (rows_of t))
 unfolding table_file

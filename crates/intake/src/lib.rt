@@ -6,7 +6,7 @@
 ghost use Rattle.std.specs.Prelude.{◌≡◌, ◌*◌, ◌≤◌, length};
 ghost use Rattle.tables.specs.Rows as rows;
 ghost use Rattle.tables.specs.Rows.{base_rows};
-ghost use Rattle.tables.specs.Held.{pack_slots, BlankIn, admitted_of, AdmitsIn};
+ghost use Rattle.tables.specs.Held.{pack_slots, NoughtIn, admitted_of, AdmitsIn};
 ghost use Rattle.lists.specs.Held.{OpensTo};
 ghost use Rattle.wire.specs.Bytes.{run_at};
 ghost use Rattle.wire.specs.Records.{row_at};
@@ -42,7 +42,7 @@ fn slots_of(s: &[u8], n: usize) -> Slots
 
 // The rows of a table in bytes, put in columns; or the first fault's refusal, and how many rows stood before it.
 pub fn admit_bytes(s: &[u8], columns: &mut Columns) -> Result<Admitted, Rejected>
-    requires { BlankIn 0 columns.old }
+    requires { NoughtIn columns.old }
     ensures { AdmitsIn (table_from s.now) result columns.new }
 {
     let n = many(s.len(), 176, 128);
@@ -53,6 +53,7 @@ pub fn admit_bytes(s: &[u8], columns: &mut Columns) -> Result<Admitted, Rejected
         });
     }
     let slots = slots_of(s, n);
+    columns.clear();
     let mut bases = 0;
     for i in 0..n {
         let row = read_row(s, i * 176);
@@ -69,7 +70,7 @@ pub fn admit_bytes(s: &[u8], columns: &mut Columns) -> Result<Admitted, Rejected
 pub fn admitted(s: &[u8]) -> Result<Admitted, Rejected>
     ensures { result ≡ admitted_of (base_rows (table_from s.now)) (rows.admit (table_from s.now)) }
 {
-    let mut columns = Columns::blank();
+    let mut columns = Columns::zeros();
     admit_bytes(s, &mut columns)
 }
 
@@ -80,7 +81,7 @@ pub fn open_lists(
     b: Factors,
     columns: &mut Columns,
 ) -> Result<Opened, Refusal>
-    requires { BlankIn 0 columns.old }
+    requires { NoughtIn columns.old }
     ensures { OpensTo (table_from s.now) a b result columns.new }
 {
     let t = admit_bytes(s, columns);

@@ -106,6 +106,14 @@ pub all_merged : (xs : List Float) (d : ℕ) (t : Float) → argument_fault (len
 unfolding merged
 all_merged xs d t h u = rw (vector-all xs d t h, u, unless_off, add-one d)
 
+-- ---- the same, as a survey tells the number of runs
+
+pub tell_order : (xs : List Float) (d : ℕ) (t : Float) → argument_fault (length xs) d t ≡ false → unordered xs ≡ true → Err ORDER ≡ apply length (vector (all xs) d t)
+tell_order xs d t h u = sym (ap (apply length) (all_order xs d t h u))
+
+pub tell_merged : (xs : List Float) (d : ℕ) (t : Float) → argument_fault (length xs) d t ≡ false → unordered xs ≡ false → apply length (uncrowded (d + 1) (runs t xs)) ≡ apply length (vector (all xs) d t)
+tell_merged xs d t h u = sym (ap (apply length) (all_merged xs d t h u))
+
 -- ---- past ARGUMENT
 
 pub record Sound (n d : ℕ) (t : Float) : Type 0 where

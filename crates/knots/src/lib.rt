@@ -162,7 +162,7 @@ pub fn knot_vector(
 ) -> Result<usize, Refusal>
     ensures { Vectored rows knots.now rule result firsts.old firsts.new times.old times.new }
 {
-    let mut columns = Columns::blank();
+    let mut columns = Columns::zeros();
     let t = tables::admission::admit(rows, &mut columns);
     knot_vector_over(t, &columns, knots, rule, firsts, times)
 }
@@ -197,7 +197,7 @@ pub fn span_quotient_over(
 pub fn span_quotient(rows: Rows, knots: &[u8], span: Span) -> Result<f64, Refusal>
     ensures { result ≡ spec.span_quotient rows (knots_in knots.now) span }
 {
-    let mut columns = Columns::blank();
+    let mut columns = Columns::zeros();
     let t = tables::admission::admit(rows, &mut columns);
     span_quotient_over(t, &columns, knots, span)
 }

@@ -3,8 +3,7 @@ use mathlib.Core.Path.{◌≡◌, refl, sym, ap, subst, ◌∙◌}
 use mathlib.Core.List.{List, ◌++◌}
 use Prim.Native.Nat.{ℕ, ◌≤◌}
 use lib.ListN.{length, drop, replicate, length-replicate}
-use Rattle.exponents.specs.Outcome.{Refusal, Ok, Err}
-use Rattle.exponents.proofs.Numbers.{apply_refuses, apply_answers}
+use Rattle.exponents.specs.Outcome.{Refusal, Outcome, Ok, Err, apply}
 use Rattle.units.specs.declared.Row.{Row}
 use Rattle.units.specs.declared.Rows.{Rows}
 use Rattle.lent.specs.Lent.{no_row, lent_rows_lem}
@@ -27,20 +26,29 @@ all_put rs ys p q = laid-over 128 rs (replicate 128 no_row) ys (length-replicate
 
 -- ---- a read
 
+-- what is put of the rows that were read: of a refusal none
+abbrev put_of : List Row → Outcome Rows → List Row
+put_of ys (Ok rows) = laid 128 rows.len rows.at ys
+put_of ys (Err r) = ys
+
+by_answer : (ys : List Row) (o : Outcome (List Row)) → ((rs : List Row) → o ≡ Ok rs → (length rs ≤ 128) × (length rs ≤ length ys))
+    → (apply (λ (x : Rows). x.len) (read_of o) ≡ told_of o) × (put_of ys (read_of o) ≡ rows_left ys o)
+unfolding lent_rows_lem
+by_answer ys (Ok rs) few = (refl, all_put rs ys (few rs refl).0 (few rs refl).1)
+by_answer ys (Err r) few = (refl, refl)
+
 -- a refusal writes no row
 pub read_refused : (s : List ℕ) (ys : List Row) (r : Refusal) → read_of (read_table (length ys) s) ≡ Err r
     → (told_of (read_table (length ys) s) ≡ Err r) × (rows_left ys (read_table (length ys) s) ≡ ys)
-read_refused s ys r e = let p = apply_refuses lent_rows_lem (read_table (length ys) s) r e in (ap told_of p, ap (rows_left ys) p)
+read_refused s ys r e =
+    let f = by_answer ys (read_table (length ys) s) (read_few (length ys) s) in
+    (sym f.0 ∙ ap (apply (λ (x : Rows). x.len)) e, sym f.1 ∙ ap (put_of ys) e)
 
 pub read_follows : (s : List ℕ) (ys : List Row) (rows : Rows) → read_of (read_table (length ys) s) ≡ Ok rows
     → (Ok rows.len ≡ told_of (read_table (length ys) s)) × (laid 128 rows.len rows.at ys ≡ rows_left ys (read_table (length ys) s))
-unfolding lent_rows_lem
 read_follows s ys rows e =
-    let a = apply_answers lent_rows_lem (read_table (length ys) s) rows e in
-    let few = read_few (length ys) s a.answer a.is in (
-      ap (λ (x : Rows). Ok x.len) (sym a.made) ∙ ap told_of (sym a.is),
-      ap (λ (x : Rows). laid 128 x.len x.at ys) (sym a.made) ∙ all_put a.answer ys few.0 few.1 ∙ ap (rows_left ys) (sym a.is),
-    )
+    let f = by_answer ys (read_table (length ys) s) (read_few (length ys) s) in
+    (sym (ap (apply (λ (x : Rows). x.len)) e) ∙ f.0, sym (ap (put_of ys) e) ∙ f.1)
 
 -- ---- salvage
 abbrev pub Salvages : List ℕ → List Row → Kept → List Row → Type 0

@@ -25,7 +25,7 @@ pub fn canonical_over(o: Result<Opened, Refusal>) -> Result<Factors, Refusal>
 pub fn canonical(rows: Rows, l: Factors) -> Result<Factors, Refusal>
     ensures { result ≡ made_of (spec.canonical rows l) }
 {
-    let mut columns = Columns::blank();
+    let mut columns = Columns::zeros();
     let none = units::lists::empty();
     let o = super::opening::open_lists(rows, l, none, &mut columns);
     canonical_over(o)
@@ -42,7 +42,7 @@ pub fn same_list_over(o: Result<Opened, Refusal>) -> Result<bool, Refusal>
 pub fn same_list(rows: Rows, a: Factors, b: Factors) -> Result<bool, Refusal>
     ensures { result ≡ same_lists rows a b }
 {
-    let mut columns = Columns::blank();
+    let mut columns = Columns::zeros();
     let o = super::opening::open_lists(rows, a, b, &mut columns);
     same_list_over(o)
 }

@@ -4,7 +4,7 @@ ghost use Rattle.units.specs.declared.Factor.{Factor as Factorᵛ};
 ghost use Rattle.units.specs.Lists.{pack};
 ghost use Rattle.units.specs.declared.Rows.{Rows as Rowsᵛ};
 ghost use Rattle.tables.specs.Rows.{admit, base_rows};
-ghost use Rattle.tables.specs.Held.{BlankIn, admitted_of, View, Resolved, AdmitsIn};
+ghost use Rattle.tables.specs.Held.{NoughtIn, admitted_of, View, Resolved, AdmitsIn};
 ghost use Rattle.lists.specs.Held as spec;
 ghost use Rattle.lists.specs.Held.{opened_of, OpensTo};
 
@@ -44,7 +44,7 @@ pub fn open_over(
 pub fn admitted(rows: Rows) -> Result<Admitted, Rejected>
     ensures { result ≡ admitted_of (base_rows rows) (admit rows) }
 {
-    let mut columns = Columns::blank();
+    let mut columns = Columns::zeros();
     tables::admission::admit(rows, &mut columns)
 }
 
@@ -55,7 +55,7 @@ pub fn open_lists(
     b: Factors,
     columns: &mut Columns,
 ) -> Result<Opened, Refusal>
-    requires { BlankIn 0 columns.old }
+    requires { NoughtIn columns.old }
     ensures { OpensTo rows a b result columns.new }
 {
     let t = tables::admission::admit(rows, columns);

@@ -26,7 +26,7 @@ pub fn reduce_list_over(o: Result<Opened, Refusal>, bases: Bases) -> Result<Redu
 pub fn reduce_list(rows: Rows, l: Factors) -> Result<Reduced, Refusal>
     ensures { result ≡ reduced_of (spec.reduction rows l) }
 {
-    let mut columns = Columns::blank();
+    let mut columns = Columns::zeros();
     let none = units::lists::empty();
     let o = super::opening::open_lists(rows, l, none, &mut columns);
     reduce_list_over(
@@ -52,7 +52,7 @@ pub fn smaller_unit_over(o: Result<Opened, Refusal>, bases: Bases) -> Result<Fac
 pub fn smaller_unit(rows: Rows, a: Factors, b: Factors) -> Result<Factors, Refusal>
     ensures { result ≡ made_of (spec.smaller_unit rows a b) }
 {
-    let mut columns = Columns::blank();
+    let mut columns = Columns::zeros();
     let o = super::opening::open_lists(rows, a, b, &mut columns);
     smaller_unit_over(
         o,
@@ -76,7 +76,7 @@ pub fn is_multiple_of_over(
 pub fn is_multiple_of(rows: Rows, a: Factors, b: Factors) -> Result<Option<Exponent>, Refusal>
     ensures { result ≡ spec.multiple rows a b }
 {
-    let mut columns = Columns::blank();
+    let mut columns = Columns::zeros();
     let o = super::opening::open_lists(rows, a, b, &mut columns);
     is_multiple_of_over(
         o,

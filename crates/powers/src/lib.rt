@@ -56,7 +56,7 @@ pub fn checked_power_over(
 pub fn checked_power(rows: Rows, q: Quantity, p: Quantity) -> Result<Quantity, Refusal>
     ensures { result ≡ spec.checked_power rows q p }
 {
-    let mut columns = Columns::blank();
+    let mut columns = Columns::zeros();
     let o = lists::opening::open_lists(rows, q.unit, p.unit, &mut columns);
     checked_power_over(
         o,

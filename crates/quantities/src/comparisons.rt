@@ -42,7 +42,7 @@ pub fn equal_over(
 pub fn equal(rows: Rows, q: Quantity, p: Quantity) -> Result<bool, Refusal>
     ensures { result ≡ spec.equal rows q p }
 {
-    let mut columns = Columns::blank();
+    let mut columns = Columns::zeros();
     let o = lists::opening::open_lists(rows, q.unit, p.unit, &mut columns);
     equal_over(
         o,
@@ -94,7 +94,7 @@ pub fn compare_over(
 pub fn compare(rows: Rows, q: Quantity, p: Quantity) -> Result<Ordering, Refusal>
     ensures { result ≡ compared_of (spec.compare rows q p) }
 {
-    let mut columns = Columns::blank();
+    let mut columns = Columns::zeros();
     let o = lists::opening::open_lists(rows, q.unit, p.unit, &mut columns);
     compare_over(
         o,

@@ -45,7 +45,7 @@ pub fn convert_to_over(
 pub fn convert_to(rows: Rows, q: Quantity, target: Factors) -> Result<Quantity, Refusal>
     ensures { result ≡ spec.convert_to rows q target }
 {
-    let mut columns = Columns::blank();
+    let mut columns = Columns::zeros();
     let o = lists::opening::open_lists(rows, q.unit, target, &mut columns);
     convert_to_over(
         o,
@@ -83,7 +83,7 @@ pub fn merged_rate_over(o: Result<Opened, Refusal>, bases: Bases) -> Result<Rate
 pub fn convert_merged(rows: Rows, q: Quantity, target: Factors) -> Result<Quantity, Refusal>
     ensures { result ≡ spec.convert_merged rows q target }
 {
-    let mut columns = Columns::blank();
+    let mut columns = Columns::zeros();
     let o = lists::opening::open_lists(rows, q.unit, target, &mut columns);
     convert_merged_over(
         o,

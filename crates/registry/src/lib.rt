@@ -316,7 +316,7 @@ pub fn full_simplify_with_over(
 pub fn full_simplify_with(rows: Rows, q: Quantity, c: Candidates) -> Result<Quantity, Refusal>
     ensures { result ≡ calls.full_simplify_with rows q c }
 {
-    let mut columns = Columns::blank();
+    let mut columns = Columns::zeros();
     let t = tables::admission::admit(rows, &mut columns);
     full_simplify_with_over(t, &columns, q, c)
 }

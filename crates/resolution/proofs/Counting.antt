@@ -40,7 +40,7 @@ less_test (suc a) zero = le-ltb (suc a) 0 (omega arith) ∙ sym (ap is_less (com
 less_test (suc a) (suc b) = leb-suc-suc (suc a) b ∙ less_test a b ∙ sym (ap is_less (compare.suc-suc a b))
 
 -- rank, then row
-lower_is : (a r b s : ℕ) → (ltb a b || (eqb a b && ltb r s)) ≡ is_less (then (compare a b) (compare r s))
+pub lower_is : (a r b s : ℕ) → (ltb a b || (eqb a b && ltb r s)) ≡ is_less (then (compare a b) (compare r s))
 unfolding is_less
 lower_is a r b s = ap₂ (λ t u. t || (eqb a b && u)) (less_test a b) (less_test r s) ∙ go (compare a b) (compare r s)
   where

@@ -50,19 +50,26 @@ module _ (a b : Factors) (first_full : length a.at ≡ 16) (first_short : a.len 
   long_first = listed a first_full first_short
 
   -- the factor at place i, as the code reads it
-  pub from_first : (i : ℕ) (d : Factor) → i < a.len → (get_or a.at i d).row ≡ (get_or (join a b) i no_factor).row
-  from_first i d h =
-      ap (λ (f : Factor). f.row) (sym (get_or-take a.len a.at i d h) ∙ get_any (list_of a) i d no_factor (omega (arith, long_first)) ∙ sym (get_or-append (list_of a) (list_of b) no_factor i (omega (arith, long_first))))
+  pub from_first : (i : ℕ) (d : Factor) → i < a.len → get_or a.at i d ≡ get_or (join a b) i d
+  from_first i d h = sym (get_or-take a.len a.at i d h) ∙ sym (get_or-append (list_of a) (list_of b) d i (omega (arith, long_first)))
 
-  pub from_second : (i : ℕ) (d : Factor) → length b.at ≡ 16 → b.len ≤ 16 → a.len ≤ i → i < a.len + b.len → (get_or b.at (i - a.len) d).row ≡ (get_or (join a b) i no_factor).row
-  from_second i d full short h k =
+  pub from_second : (i : ℕ) (d : Factor) → a.len ≤ i → i < a.len + b.len → get_or b.at (i - a.len) d ≡ get_or (join a b) i d
+  from_second i d h k =
       let e : length (list_of a) + (i - a.len) ≡ i = omega (arith, long_first) in
-      let there : i - a.len < length (list_of b) = omega (arith, listed b full short) in
-      ap (λ (f : Factor). f.row)
-      (sym (get_or-take b.len b.at (i - a.len) d (omega arith))
-      ∙ get_any (list_of b) (i - a.len) d no_factor there
-      ∙ sym (get_or-append-add (list_of a) (list_of b) (i - a.len) no_factor)
-      ∙ ap (λ n. get_or (join a b) n no_factor) e)
+      sym (get_or-take b.len b.at (i - a.len) d (omega arith))
+      ∙ sym (get_or-append-add (list_of a) (list_of b) (i - a.len) d)
+      ∙ ap (λ n. get_or (join a b) n d) e
+
+  -- the row that it names, past the end no factor's
+  pub row_first : (i : ℕ) (d : Factor) → i < a.len → (get_or a.at i d).row ≡ (get_or (join a b) i no_factor).row
+  row_first i d h =
+      let there : i < length (join a b) = omega (arith, length-append (list_of a) (list_of b), long_first) in
+      ap (λ (f : Factor). f.row) (from_first i d h ∙ get_any (join a b) i d no_factor there)
+
+  pub row_second : (i : ℕ) (d : Factor) → length b.at ≡ 16 → b.len ≤ 16 → a.len ≤ i → i < a.len + b.len → (get_or b.at (i - a.len) d).row ≡ (get_or (join a b) i no_factor).row
+  row_second i d full short h k =
+      let there : i < length (join a b) = omega (arith, length-append (list_of a) (list_of b), long_first, listed b full short) in
+      ap (λ (f : Factor). f.row) (from_second i d h k ∙ get_any (join a b) i d no_factor there)
 
 -- two lists that passed
 pub record Lists (rows : ℕ) (a b : Factors) : Type 0 where
@@ -81,12 +88,12 @@ module _ {rows : ℕ} {a b : Factors} (g : Lists rows a b) where
   long_join = length-append (list_of a) (list_of b) ∙ ap₂ ◌+◌ (listed a g.first_full first_short) (listed b g.second_full second_short)
 
   -- it names a row of the table
-  pub names_row : (i : ℕ) → i < a.len + b.len → (get_or (join a b) i no_factor).row < rows
-  names_row i h =
+  pub names_row : (i : ℕ) (d : Factor) → i < a.len + b.len → (get_or (join a b) i d).row < rows
+  names_row i d h =
       let none = none_append (unknown rows) (list_of a) (list_of b)
       (take_out (all_known rows a) (passes rows a (first_passed rows a b g.passed)))
       (take_out (all_known rows b) (passes rows b (second_passed rows a b g.passed))) in
-      ltb-true _ _ (not-false _ (none_at (unknown rows) (join a b) i no_factor (omega (arith, long_join)) none))
+      ltb-true _ _ (not-false _ (none_at (unknown rows) (join a b) i d (omega (arith, long_join)) none))
 
   -- each list is a part of the join
   pub first_part : list_of a ≡ take a.len (drop 0 (join a b))

@@ -36,7 +36,7 @@ pub fn full_simplify_over(
 pub fn full_simplify(rows: Rows, q: Quantity) -> Result<Quantity, Refusal>
     ensures { result ≡ spec.full_simplify rows q }
 {
-    let mut columns = Columns::blank();
+    let mut columns = Columns::zeros();
     let none = units::lists::empty();
     let o = lists::opening::open_lists(rows, q.unit, none, &mut columns);
     full_simplify_over(

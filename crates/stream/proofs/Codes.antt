@@ -21,15 +21,15 @@ module _ (n k : ℕ) (e : k ≡ (look lists.calls n).arity) where
   module _ (z : k ≡ 0) (m : ℕ) (f : m ≡ (look values.calls n).arity) where
     pub of_values : (m ≡ 0 → ⊥) → call_of n ≡ look values.calls n
     unfolding call_of calls
-    of_values h = look-second lists.calls _ n in-lists.calls_proper (sym e ∙ z) ∙ look-first values.calls _ n (λ y. h (f ∙ y))
+    of_values h = look-second _ lists.calls _ n in-lists.calls_proper (sym e ∙ z) ∙ look-first values.calls _ n (λ y. h (f ∙ y))
 
     module _ (y : m ≡ 0) (l : ℕ) (g : l ≡ (look simplify.calls n).arity) where
       behind : call_of n ≡ look (simplify.calls ++ added.calls) n
       unfolding call_of calls
-      behind = look-second lists.calls _ n in-lists.calls_proper (sym e ∙ z) ∙ look-second values.calls _ n in-values.calls_proper (sym f ∙ y)
+      behind = look-second _ lists.calls _ n in-lists.calls_proper (sym e ∙ z) ∙ look-second _ values.calls _ n in-values.calls_proper (sym f ∙ y)
 
       pub of_simplify : (l ≡ 0 → ⊥) → call_of n ≡ look simplify.calls n
       of_simplify h = behind ∙ look-first simplify.calls _ n (λ x. h (g ∙ x))
 
       pub of_added : l ≡ 0 → call_of n ≡ look added.calls n
-      of_added x = behind ∙ look-second simplify.calls _ n in-simplify.calls_proper (sym g ∙ x)
+      of_added x = behind ∙ look-second _ simplify.calls _ n in-simplify.calls_proper (sym g ∙ x)

@@ -96,7 +96,7 @@ pub fn add_over(
 pub fn add(rows: Rows, q: Quantity, p: Quantity) -> Result<Quantity, Refusal>
     ensures { result ≡ spec.add rows q p }
 {
-    let mut columns = Columns::blank();
+    let mut columns = Columns::zeros();
     let o = lists::opening::open_lists(rows, q.unit, p.unit, &mut columns);
     add_over(
         o,
@@ -133,7 +133,7 @@ pub fn subtract_over(
 pub fn subtract(rows: Rows, q: Quantity, p: Quantity) -> Result<Quantity, Refusal>
     ensures { result ≡ spec.subtract rows q p }
 {
-    let mut columns = Columns::blank();
+    let mut columns = Columns::zeros();
     let o = lists::opening::open_lists(rows, q.unit, p.unit, &mut columns);
     subtract_over(
         o,

@@ -1,5 +1,5 @@
 -- What code holds of an admission tells the table's refusal, and how many rows stand before the first fault.
-use mathlib.Core.Path.{◌≡◌, refl, sym, ap}
+use mathlib.Core.Path.{◌≡◌, refl, ap, ◌∙◌}
 use mathlib.Core.Bool.{Bool, true, false}
 use mathlib.Core.List.{List, []}
 use Prim.Native.Nat.{ℕ, ◌≤◌}
@@ -7,6 +7,7 @@ use native.Mathlib.Omega.{arith}
 use borrow.Author.Tests.{le-ltb, ltb-false}
 use lib.Dec.{ltb}
 use lib.ListN.{length, replicate, length-replicate}
+use Rattle.std.specs.Prelude.{Result}
 use Rattle.exponents.specs.Words.{pick, All}
 use Rattle.exponents.specs.Outcome.{TABLE, Ok, Err, apply}
 use Rattle.exponents.proofs.Each.{all_imp}
@@ -45,11 +46,20 @@ admitted_on : (ss : List Slot) (a : Admission) (t : Admitted) → admitted_of ss
 admitted_on ss (admitted ks) t e = (ks, refl)
 admitted_on ss (stopped r ks) t e = let z : ◌≡◌ {A = ℕ} 0 1 = cc in absurd (omega arith)
 
-stopped_on : (ss : List Slot) (a : Admission) (x : Rejected) → admitted_of ss a ≡ Err x → (known a ≡ Err x.refusal) × (x.len ≡ before a)
+stopped_on : (ss : List Slot) (a : Admission) (x : Rejected) → admitted_of ss a ≡ Err x → known a ≡ Err x.refusal
 stopped_on ss (admitted ks) x e = let z : ◌≡◌ {A = ℕ} 0 1 = cc in absurd (omega arith)
 stopped_on ss (stopped r ks) x e =
     let z : record { refusal = r; len = length ks } ≡ x = cc in
-    (ap (λ (y : Rejected). Err y.refusal) z, sym (ap (λ (y : Rejected). y.len) z))
+    ap (λ (y : Rejected). Err y.refusal) z
+
+-- how many rows it says that there are: all of them, or those before the fault
+abbrev pub held_rows : Result Admitted Rejected → ℕ
+held_rows (Ok t) = t.len
+held_rows (Err x) = x.len
+
+held_before : (ss : List Slot) (a : Admission) → held_rows (admitted_of ss a) ≡ before a
+held_before ss (admitted ks) = refl
+held_before ss (stopped r ks) = refl
 
 module _ (rows : Rows) where
   pub all_admitted : (t : Admitted) → admitted_of (base_rows rows) (admit rows) ≡ Ok t → (ks : List Facts) × (admit rows ≡ admitted ks)
@@ -59,12 +69,11 @@ module _ (rows : Rows) where
   pub table_keeps : {A : Type 0} (a : A) (t : Admitted) → admitted_of (base_rows rows) (admit rows) ≡ Ok t → apply (λ ks. a) (table rows) ≡ Ok a
   table_keeps a t e = let k = all_admitted t e in ap (λ o. apply (λ ks. a) (known o)) k.1
 
-  module _ (x : Rejected) (e : admitted_of (base_rows rows) (admit rows) ≡ Err x) where
-    pub table_stops : table rows ≡ Err x.refusal
-    table_stops = (stopped_on (base_rows rows) (admit rows) x e).0
+  pub table_stops : (x : Rejected) → admitted_of (base_rows rows) (admit rows) ≡ Err x → table rows ≡ Err x.refusal
+  table_stops x e = stopped_on (base_rows rows) (admit rows) x e
 
-    pub rows_before : x.len ≡ before (admit rows)
-    rows_before = (stopped_on (base_rows rows) (admit rows) x e).1
+  pub rows_before : (t : Result Admitted Rejected) → t ≡ admitted_of (base_rows rows) (admit rows) → held_rows t ≡ before (admit rows)
+  rows_before t e = ap held_rows e ∙ held_before (base_rows rows) (admit rows)
 
 -- ---- an admitted table has at most 128 rows, each of at most 8 factors
 

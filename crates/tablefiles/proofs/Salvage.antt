@@ -81,4 +81,4 @@ module _ (places : ℕ) (s : List ℕ) where
       pub some_kept : (x : Rejected) → admitted_of (base_rows f.rows) (admit f.rows) ≡ Err x → (g : Front) → g ≡ front_of (length s) (front x.len (drop at s))
           → record { rows = g.rows; told = record { rows = g.rows.len; byte = g.next } } ≡ salvaged_of (salvage places s)
       unfolding kept_from
-      some_kept x a g y = handed g (front x.len (drop at s)) y (ap (λ i. front i (drop at s)) (rows_before f.rows x a ∙ ap before own))
+      some_kept x a g y = handed g (front x.len (drop at s)) y (ap (λ i. front i (drop at s)) (rows_before f.rows (Err x) (sym a) ∙ ap before own))

@@ -138,6 +138,9 @@ module _ (ss : List Slot) (rs : List Row) (ks : List Facts) (h : admit_from ss [
   pub table-length : length ks ≡ length rs
   table-length = ap length all.is ∙ all.sized
 
+  pub table_ranks : map (λ (k : Facts). k.rank) ks ≡ map (λ (r : Row). r.rank) rs
+  table_ranks = ap (map (λ (k : Facts). k.rank)) all.is ∙ all.ranks
+
   module _ (d : Row) (i : ℕ) (p : i < length rs) where
     -- each row is what it is over the rows before it
     pub row_known : Known ss (take i ks) (get_or rs i d) (get_or ks i nobody)

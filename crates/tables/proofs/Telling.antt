@@ -40,3 +40,7 @@ same-all (suc n) (suc i) a = same-all n i a
 
 pub blank_new : (n m : ℕ) → Blank 0 (replicate n (pos 0)) (replicate m 1)
 blank_new n m = record { top = λ i h. same-all n i (pos 0); bottom = λ i h. same-all m i 1 }
+
+-- zeros and ones: of no row
+pub blank_filled : (nums : List ℤ) (m : ℕ) (dens : List ℕ) → ((i : ℕ) → get_or nums i (pos 0) ≡ pos 0) → dens ≡ replicate m 1 → Blank 0 nums dens
+blank_filled nums m dens z e = rw e (record { top = λ i h. z i; bottom = λ i h. same-all m i 1 })

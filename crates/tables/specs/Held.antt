@@ -151,6 +151,10 @@ pub record Enters (slots : Slots) (i bases : ℕ) (row : Row) (o : Outcome (Unit
 abbrev pub BlankIn : ℕ → Columns → Type 0
 BlankIn n c = Blank n c.nums c.dens
 
+-- all numerators are zero; the other columns hold anything
+abbrev pub NoughtIn : Columns → Type 0
+NoughtIn c = (i : ℕ) → get_or c.nums i (pos 0) ≡ pos 0
+
 abbrev pub AdmitsIn : Rows → Result Admitted Rejected → Columns → Type 0
 AdmitsIn rows t c = Admits rows t c.nums c.dens c.scales c.ranks c.based
 

@@ -3,7 +3,7 @@ ghost use Rattle.std.specs.Prelude.{◌≡◌, ◌||◌, not, [], ◌≤◌, ◌
 ghost use Rattle.units.specs.Lists.{some};
 ghost use Rattle.tables.specs.Rows as spec;
 ghost use Rattle.tables.specs.Rows.{rows_of, def_of};
-ghost use Rattle.tables.specs.Held.{pack_slots, BlankIn, counted, AdmitsIn, EntersIn};
+ghost use Rattle.tables.specs.Held.{pack_slots, NoughtIn, counted, AdmitsIn, EntersIn};
 
 use super::pages::Columns;
 use super::{Admitted, Rejected, Slot, Slots, pages, ranked, rows};
@@ -121,7 +121,7 @@ fn taken(row: Row) -> Row
 
 // The rows of a table, put in columns; or the first fault's refusal, and how many rows stood before it.
 pub fn admit(rows: Rows, columns: &mut Columns) -> Result<Admitted, Rejected>
-    requires { BlankIn 0 columns.old }
+    requires { NoughtIn columns.old }
     ensures { AdmitsIn rows result columns.new }
 {
     let n = rows.len;
@@ -132,6 +132,7 @@ pub fn admit(rows: Rows, columns: &mut Columns) -> Result<Admitted, Rejected>
         });
     }
     let slots = slots_of(rows);
+    columns.clear();
     let mut bases = 0;
     for i in 0..n {
         let row = taken(rows.at[i]);

@@ -2,7 +2,7 @@
 // the order of the slots; its scale, its rank and whether it is base at r.
 ghost use Rattle.std.specs.Prelude.{◌≡◌, ◌+◌, ◌*◌, ◌<◌, ◌≤◌, length, get_or, take, drop, pos};
 ghost use Rattle.std.proofs.lemmas.List.Edits.{sets};
-ghost use Rattle.tables.specs.Held.{tops, bottoms, told, BlankIn};
+ghost use Rattle.tables.specs.Held.{tops, bottoms, told, BlankIn, NoughtIn};
 
 use exponents::Exponent;
 
@@ -24,17 +24,36 @@ pub struct Bases<'a> {
 }
 
 impl Columns {
+    // Zeros throughout: what an admission is lent, which puts the ones where they stay. An array of ones in a value that a
+    // function hands over is made apart and copied, twice.
+    pub fn zeros() -> Columns
+        ensures { NoughtIn result }
+    {
+        Columns {
+            nums: [0; 2048],
+            dens: [0; 2048],
+            scales: [0.0; 128],
+            ranks: [0; 128],
+            based: [false; 128],
+        }
+    }
+
+    // Of no row, where all numerators are zero.
+    pub fn clear(&mut self)
+        requires { NoughtIn self.old }
+        ensures { BlankIn 0 self.new }
+    {
+        self.dens.fill(1);
+        self.scales.fill(1.0);
+    }
+
     // Of no row.
     pub fn blank() -> Columns
         ensures { BlankIn 0 result }
     {
-        Columns {
-            nums: [0; 2048],
-            dens: [1; 2048],
-            scales: [1.0; 128],
-            ranks: [0; 128],
-            based: [false; 128],
-        }
+        let mut columns = Columns::zeros();
+        columns.clear();
+        columns
     }
 }
 

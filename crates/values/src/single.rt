@@ -95,7 +95,7 @@ pub fn reduce_over(
 pub fn reduce(rows: Rows, q: Quantity) -> Result<Quantity, Refusal>
     ensures { result ≡ spec.reduce rows q }
 {
-    let mut columns = Columns::blank();
+    let mut columns = Columns::zeros();
     let none = units::lists::empty();
     let o = lists::opening::open_lists(rows, q.unit, none, &mut columns);
     reduce_over(

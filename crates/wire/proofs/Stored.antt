@@ -13,8 +13,9 @@ use Rattle.units.specs.declared.Factor.{Factor}
 use Rattle.units.specs.declared.Factors.{Factors}
 use Rattle.units.specs.declared.Row.{Row}
 use Rattle.units.specs.declared.Quantity.{Quantity}
+use Rattle.units.specs.declared.Candidate.{Candidate}
 use Rattle.wire.specs.Bytes.{bytes_of, run_bytes}
-use Rattle.wire.specs.Records.{exponent_bytes, prefix_bytes, factor_bytes, list_bytes, quantity_bytes, row_bytes}
+use Rattle.wire.specs.Records.{exponent_bytes, prefix_bytes, factor_bytes, list_bytes, quantity_bytes, row_bytes, candidate_bytes}
 use Rattle.wire.proofs.Digits.{length-bytes_of, sets_append}
 
 -- ---- records of one size
@@ -72,9 +73,16 @@ pub length-row_bytes : (r : Row) → length r.def ≡ 8 → length (row_bytes r)
 unfolding row_bytes
 length-row_bytes r e = simp (length-append, length-bytes_of, length_factors_bytes, e)
 
+pub length-candidate_bytes : (c : Candidate) → length c.unit.at ≡ 16 → length (candidate_bytes c) ≡ 328
+unfolding candidate_bytes
+length-candidate_bytes c e = simp (length-append, length-bytes_of, length-list_bytes c.unit e)
+
 -- ---- a factor, from its parts
 pub sets_prefix : (p : Prefix) (b l : List ℕ) (i : ℕ) → sets l i (prefix_bytes p ++ b) ≡ sets (sets l i (prefix_bytes p)) (i + 8) b
 sets_prefix = sets_record prefix_bytes 8 length-prefix_bytes
+
+pub sets_factor : (f : Factor) (b l : List ℕ) (i : ℕ) → sets l i (factor_bytes f ++ b) ≡ sets (sets l i (factor_bytes f)) (i + 20) b
+sets_factor = sets_record factor_bytes 20 length-factor_bytes
 
 pub factor_written : (l l1 l2 l3 : List ℕ) (i : ℕ) (f : Factor) → l1 ≡ sets l i (bytes_of 4 f.row)
     → l2 ≡ sets l1 (i + 4) (prefix_bytes f.prefix) → l3 ≡ sets l2 (i + 12) (exponent_bytes f.exponent) → l3 ≡ sets l i (factor_bytes f)

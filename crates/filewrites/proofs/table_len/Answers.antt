@@ -6,11 +6,11 @@ use lib.ListN.{length}
 use Rattle.exponents.proofs.Words.{unmapped}
 use Rattle.tables.specs.Rows.{rows_of}
 use Rattle.files.specs.Records.{row_file}
-use Rattle.filewrites.proofs.Written.{length_on, length_done, row_short, rows_long, table_length}
+use Rattle.filewrites.proofs.Written.{length_on, length_done, row_few, rows_long, table_length}
 use Rattle.filewrites.proofs.table_len.Goals as goal
 
 pub row_len-n-requires : goal.row_len-n-requires
-row_len-n-requires c = row_short c.args.t c.loop-r.r-index _ c.loop-r-test.true c.requires.1
+row_len-n-requires c = row_few c.args.t c.loop-r.r-index _ c.loop-r-test.true c.requires.1
 
 pub loop-r-preserved : goal.loop-r-preserved
 loop-r-preserved c =

@@ -6,7 +6,7 @@ use lib.ListN.{length}
 use Rattle.exponents.proofs.Words.{unmapped}
 use Rattle.tables.specs.Rows.{rows_of}
 use Rattle.files.specs.Records.{row_file}
-use Rattle.filewrites.proofs.Written.{storing_room, storing_on, storing_end, row_short, rows_long, table_length, table_written}
+use Rattle.filewrites.proofs.Written.{storing_room, storing_on, storing_end, row_few, rows_long, table_length, table_written}
 use Rattle.filewrites.proofs.write_table.Goals as goal
 
 pub write_number-p-requires : goal.write_number-p-requires
@@ -20,7 +20,7 @@ write_row-p-requires c =
     let sized : length c.args.t.at ≡ 128 = search (rules, unmapped) in
     let k = c.loop-r in
     let m = table_length c.args.t (rows_long c.args.t sized c.requires.0) in
-    (row_short c.args.t k.r-index _ c.loop-r-test.true c.requires.1, storing_room row_file (rows_of c.args.t) _ _ _ _ _ k.r-index c.loop-r-test.true k.invariant (omega arith))
+    (row_few c.args.t k.r-index _ c.loop-r-test.true c.requires.1, storing_room row_file (rows_of c.args.t) _ _ _ _ _ k.r-index c.loop-r-test.true k.invariant (omega arith))
 
 pub loop-r-preserved : goal.loop-r-preserved
 loop-r-preserved c =

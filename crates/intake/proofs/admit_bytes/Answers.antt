@@ -30,7 +30,7 @@ slots_of-slots-requires c = (c.if-n-gt128.false, rows_inside c.args.s.now c.many
 pub loop-i-init : goal.loop-i-init
 loop-i-init c =
     let rs = rows c.args.s.now c.many-n.result in
-    admitting_none (slots rs) rs _ _ _ _ _ c.requires
+    admitting_none (slots rs) rs _ _ _ _ _ c.clear.ensures
 
 pub read_row-row-requires : goal.read_row-row-requires
 read_row-row-requires c =

@@ -5,7 +5,7 @@ use Prim.Native.Nat.{◌+◌, ◌*◌, ◌<◌}
 use native.Mathlib.Omega.{arith}
 use lib.ListN.{length, set, length-set}
 use lib.Seq.{length-sets}
-use Rattle.units.specs.Lists.{both}
+use Rattle.units.specs.Lists.{no_factor, both}
 use Rattle.exponents.proofs.Words.{unmapped}
 use Rattle.tables.proofs.Paging.{known_exps}
 use Rattle.resolution.specs.Held.{Counts, Named, resolved_of}
@@ -39,14 +39,14 @@ loop-i-init c =
 
 pub exps_at-e-requires : goal.exps_at-e-requires
 exps_at-e-requires c =
-    let low = names_row c.loop-i.invariant.lists c.loop-i.i (omega arith) in
+    let low = names_row c.loop-i.invariant.lists c.loop-i.i no_factor (omega arith) in
     let here = c.row_at-r.ensures in
     search rules
 
 pub returns-in_err-k : goal.returns-in_err-k
 returns-in_err-k c ks h =
     let r = c.row_at-r.result in
-    let there : r < length ks = omega (arith, names_row c.loop-i.invariant.lists c.loop-i.i (omega arith), c.row_at-r.ensures, h.all) in
+    let there : r < length ks = omega (arith, names_row c.loop-i.invariant.lists c.loop-i.i no_factor (omega arith), c.row_at-r.ensures, h.all) in
     let known = known_exps _ _ _ _ _ _ r c.exps_at-e.result h.paged there c.exps_at-e.ensures.0 c.exps_at-e.ensures.1 (search (rules, unmapped)) in
     absurd (key_there h.keyed r there c.exps_at-e.result known _ c.in_err-k.ensures)
 
@@ -61,7 +61,7 @@ loop-i-preserved c =
     let e = c.exps_at-e.result in
     let k = c.in_ok-k.k in
     let put = c.put_key.ensures in
-    let row : r < a.len = omega (arith, names_row g o.i (omega arith), c.row_at-r.ensures) in
+    let row : r < a.len = omega (arith, names_row g o.i no_factor (omega arith), c.row_at-r.ensures) in
     let room : o.i < length o.named = omega arith in
     record {
       lists = g;

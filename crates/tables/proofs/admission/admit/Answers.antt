@@ -30,7 +30,7 @@ returns-then-n-gt128 c =
     record { is = sym (ap (admitted_of all) is); pages = subst (λ (a : Admission). Pages a c.args.columns.now.nums c.args.columns.now.dens c.args.columns.now.scales c.args.columns.now.ranks c.args.columns.now.based) (sym is) tt }
 
 pub loop-i-init : goal.loop-i-init
-loop-i-init c = admitting_none (slots (rows_of c.args.rows)) (rows_of c.args.rows) _ _ _ _ _ c.requires
+loop-i-init c = admitting_none (slots (rows_of c.args.rows)) (rows_of c.args.rows) _ _ _ _ _ c.clear.ensures
 
 pub admit_row-entered-requires : goal.admit_row-entered-requires
 admit_row-entered-requires c =
