@@ -267,11 +267,19 @@ fn changed(call: u8, q: Quantity, l: Factors) -> Result<Quantity, Refusal> {
     }
 }
 
+fn judged(call: u8, q: Quantity, p: Quantity) -> Result<Answer, Refusal> {
+    let t = table(8);
+    match call {
+        b'o' => Ok(Answer::Ordered(quantities::comparisons::compare(t, q, p)?)),
+        b'e' => Ok(Answer::Equal(quantities::comparisons::equal(t, q, p)?)),
+        _ => Ok(Answer::Equal(lists::forms::same_list(t, q.unit, p.unit)?)),
+    }
+}
+
+// A function pays at its entry for what it holds, so each sort of call has the table in a function of its own.
 fn asked(call: u8, q: Quantity, p: Quantity) -> Result<Answer, Refusal> {
     match call {
-        b'o' => Ok(Answer::Ordered(quantities::comparisons::compare(table(8), q, p)?)),
-        b'e' => Ok(Answer::Equal(quantities::comparisons::equal(table(8), q, p)?)),
-        b'l' => Ok(Answer::Equal(lists::forms::same_list(table(8), q.unit, p.unit)?)),
+        b'o' | b'e' | b'l' => judged(call, q, p),
         b'+' | b'-' | b'*' | b'/' | b'^' => Ok(Answer::Quantity(combined(call, q, p)?)),
         _ => Ok(Answer::Quantity(changed(call, q, p.unit)?)),
     }
